@@ -1,0 +1,4 @@
+pub mod First
+pub mod Powers
+pub mod Rounding
+pub mod Tests

@@ -1,0 +1,43 @@
+// Rounding and powers of two, for every layer above. Where document 01 says "rounded up to" or "rounded down to", one of these is meant.
+ghost use mathlib.Core.Path.{_≡_};
+ghost use Prim.Native.Nat.{_+_, _^_, _≤_, _<_};
+ghost use Rattle.rounding.specs.Round.{roundDown, roundUp, multiple, oneBit, nextPower};
+
+pub fn round_down_to(n: usize, divisor: usize) -> usize
+    requires { ⌜ 0 < divisor ⌝ }
+    ensures { λ r. ⌜ r ≡ roundDown n divisor ⌝ }
+{
+    n - n % divisor
+}
+
+pub fn round_up_to(n: usize, divisor: usize) -> usize
+    requires { ⌜ (0 < divisor) × (n + divisor ≤ 2 ^ 64) ⌝ }
+    ensures { λ r. ⌜ r ≡ roundUp n divisor ⌝ }
+{
+    round_down_to(n + (divisor - 1), divisor)
+}
+
+pub fn is_multiple(n: usize, divisor: usize) -> bool
+    requires { ⌜ 0 < divisor ⌝ }
+    ensures { λ r. ⌜ r ≡ multiple divisor n ⌝ }
+{
+    n % divisor == 0
+}
+
+// Exactly one bit set: a power of two.
+pub fn has_one_bit(n: usize) -> bool
+    ensures { λ r. ⌜ r ≡ oneBit n ⌝ }
+{
+    usize::count_ones(n) == 1
+}
+
+// The least power of two at or above n. One less than n has as many digits as the power has zeros.
+pub fn next_power_of_two(n: usize) -> usize
+    requires { ⌜ n ≤ 2 ^ 63 ⌝ }
+    ensures { λ r. ⌜ r ≡ nextPower n ⌝ }
+{
+    if n <= 1 {
+        return 1;
+    }
+    1 << (64 - usize::leading_zeros(n - 1))
+}
