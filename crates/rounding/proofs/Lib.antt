@@ -1,3 +1,4 @@
+pub mod Every
 pub mod First
 pub mod Powers
 pub mod Rounding

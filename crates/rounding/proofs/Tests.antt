@@ -3,6 +3,7 @@
 use mathlib.Core.Bool.{Bool, true, false, not, _&&_, _||_, true≢false}
 use mathlib.Core.Logic.{_⊎_, inl, inr}
 use mathlib.Core.Path.{_≡_, refl, sym, _∙_, ap}
+use borrow.Author.Tests.{not-true, not-false}
 
 -- a test holds or fails, and never both
 pub decided : (b : Bool) → (b ≡ true) ⊎ (b ≡ false)
@@ -66,3 +67,10 @@ true-not p = ap not p
 
 pub false-not : {b : Bool} → b ≡ false → not b ≡ true
 false-not p = ap not p
+
+-- `if !f(..) { return ..; }`: which way the branch went tells the test that the callee answers
+pub taken-false : {answer test : Bool} → answer ≡ test → not answer ≡ true → test ≡ false
+taken-false {answer} e t = sym e ∙ not-true answer t
+
+pub left-true : {answer test : Bool} → answer ≡ test → not answer ≡ false → test ≡ true
+left-true {answer} e f = sym e ∙ not-false answer f

@@ -6,9 +6,9 @@ unfoldable pub every : {A : Type 0} → (A → Bool) → List A → Bool
 every test [] = true
 every test (x ∷ xs) = test x && every test xs
 
-abbrev pub Every : {A : Type 0} → (A → Type 0) → List A → Type 0
-Every holds [] = Unit {0}
-Every holds (x ∷ xs) = holds x × Every holds xs
+abbrev pub Each : {A : Type 0} → (A → Type 0) → List A → Type 0
+Each holds [] = Unit {0}
+Each holds (x ∷ xs) = holds x × Each holds xs
 
 -- something holds of some element
 unfoldable pub any : {A : Type 0} → (A → Bool) → List A → Bool

@@ -1,0 +1,29 @@
+-- `arena::Arena::no_allocation_limit` meets its contract: an unsound record is refused, and a sound one has no limit then. Assumes nothing.
+use mathlib.Core.Path.{sym, _∙_}
+use Rattle.rounding.proofs.Tests.{taken-false, left-true}
+use Rattle.arena.specs.declared.Answer.the-variants.{Done}
+use Rattle.arena.specs.Creation.{noLimitOf}
+use Rattle.arena.proofs.Refusing.{unsound-refused, sound-done}
+use borrow.Author.Needs.{needs}
+use Rattle.arena.proofs.Arena.no_allocation_limit.Statement.{statement}
+use Rattle.arena.proofs.Arena.no_allocation_limit.Tie as tie
+
+is-sound-requires : tie.Need-is-sound-requires
+is-sound-requires c κs = search needs
+
+returns : tie.Need-returns
+unfolding noLimitOf
+returns c = sym (unsound-refused _ _ (taken-false (c .before .is-sound .ensures) (c .if1 .taken)))
+
+limited-to-requires : tie.Need-limited-to-requires
+limited-to-requires c κs = search needs
+
+returns-2 : tie.Need-returns-2
+unfolding noLimitOf
+returns-2 c =
+    (λ i. record { answer = Done; arena = c .limited-to .ensures i })
+    ∙ sym (sound-done _ _ (left-true (c .before .before .is-sound .ensures) (c .before .if1 .left)))
+
+pub no-allocation-limit-spec : {M : Type 1} → statement M
+no-allocation-limit-spec =
+    tie.close (tie.spec is-sound-requires returns limited-to-requires returns-2)

@@ -1,0 +1,10 @@
+pub mod Cases
+pub mod Emptied
+pub mod Lowest
+pub mod Made
+pub mod Refusing
+pub mod Rungs
+pub mod Soundness
+pub mod Starred
+pub mod Usable
+pub mod View

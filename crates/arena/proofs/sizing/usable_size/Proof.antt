@@ -1,0 +1,45 @@
+-- `arena::sizing::usable_size` meets its contract: the code's steps are the definition's, and an allowed alignment keeps each sum in range.
+-- Assumes nothing.
+use Prim.Native.Nat.{ℕ, _≤_}
+use native.Mathlib.Omega.{arith}
+use mathlib.Core.Bool.{true}
+use mathlib.Core.Path.{_≡_}
+use lib.Dec.{leb}
+use borrow.Author.Needs.{needs}
+use borrow.Author.Tests.{leb-true}
+use Rattle.rounding.specs.Round.{oneBit}
+use Rattle.rounding.proofs.Rounding.{up-near}
+use Rattle.rounding.proofs.Tests.{and-right}
+use Rattle.arena.specs.Numbers.{largestAlign}
+use Rattle.arena.specs.Sound.{allowedAlign}
+use Rattle.arena.specs.Sizing.{wanted, usable}
+use Rattle.arena.proofs.sizing.usable_size.Statement.{statement}
+use Rattle.arena.proofs.sizing.usable_size.Tie as tie
+
+align-bound : (align : ℕ) → allowedAlign align ≡ true → align ≤ largestAlign
+unfolding allowedAlign
+align-bound align h = leb-true align largestAlign (and-right (oneBit align) (leb align largestAlign) h)
+
+larger-requires : tie.Need-larger-requires
+larger-requires c κs = search needs
+
+round-up-to-requires : tie.Need-round-up-to-requires
+round-up-to-requires c κs = omega (arith, align-bound (c .before .args .align) (c .before .pre .2))
+
+larger-requires-2 : tie.Need-larger-requires-2
+larger-requires-2 c κs = search needs
+
+usable-for-requires : tie.Need-usable-for-requires
+usable-for-requires c κs =
+    let start = c .before .before .before in
+    let bound = align-bound (start .args .align) (start .pre .2) in
+    omega (arith, up-near (start .args .size) (c .before .before .larger .result) (omega arith))
+
+returns : tie.Need-returns
+unfolding usable wanted
+returns c = cc
+
+pub usable-size-spec : {M : Type 1} → statement M
+usable-size-spec =
+    tie.close
+    (tie.spec larger-requires round-up-to-requires larger-requires-2 usable-for-requires returns)

@@ -1,0 +1,10 @@
+pub mod Numbers
+pub mod Record
+pub mod Refusals
+pub mod Sound
+pub mod Sizing
+pub mod Placing
+pub mod Ladder
+pub mod Creation
+pub mod Inner
+pub mod Starred
