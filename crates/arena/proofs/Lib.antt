@@ -4,7 +4,9 @@ pub mod Lowest
 pub mod Made
 pub mod Refusing
 pub mod Rungs
+pub mod Served
 pub mod Soundness
-pub mod Starred
+pub mod Standing
+pub mod StaysSound
 pub mod Usable
 pub mod View

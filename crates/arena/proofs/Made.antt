@@ -14,11 +14,16 @@ use Rattle.arena.specs.declared.Refusal.{Refusal}
 use Rattle.arena.specs.declared.Refusal.the-variants.{Region, Size, Align, Room}
 use Rattle.arena.specs.Numbers.{most, defaultSize}
 use Rattle.arena.specs.Record.{holding}
-use Rattle.arena.specs.Refusals.{refusedBy}
+use Rattle.arena.specs.Refusals.{refusedBy, inOrder}
 use Rattle.arena.specs.Sound.{allowedMinimum}
 use Rattle.arena.specs.Ladder.{rungChunk}
 use Rattle.arena.specs.Creation.{freshHead, refusedCreation, creationTests, firstChunks, createdWith, creation, createdOf}
 use Rattle.arena.proofs.Refusing.{refused-now, refused-later, none-applies}
+
+-- creation's tests stand in number order, so that the lowest that applies is answered
+pub creation-in-order : (region minimum capacity : ℕ) → inOrder (creationTests region minimum capacity) ≡ true
+unfolding inOrder
+creation-in-order region minimum capacity = refl
 
 module _ (region minimum capacity : ℕ) where
   by-refusal : {o : Option Refusal} → refusedBy (creationTests region minimum capacity) ≡ o →

@@ -7,4 +7,3 @@ pub mod Placing
 pub mod Ladder
 pub mod Creation
 pub mod Inner
-pub mod Starred

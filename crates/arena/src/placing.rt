@@ -2,8 +2,8 @@
 ghost use mathlib.Core.Path.{_≡_};
 ghost use mathlib.Core.Bool.{true};
 ghost use Prim.Native.Nat.{_+_, _<_, _≤_, _^_, _∣_};
-ghost use Rattle.arena.specs.Numbers.{footer, largestAlign};
-ghost use Rattle.arena.specs.Record.{chunksOf};
+ghost use Rattle.arena.specs.Numbers.{largestAlign};
+ghost use Rattle.arena.specs.Record.{pastOf, chunksOf};
 ghost use Rattle.arena.specs.Placing.{misses, lowestPlace};
 ghost use Rattle.arena.specs.Inner.{Ready, Passed, placeOf};
 use crate::Arena;
@@ -17,7 +17,7 @@ pub enum Place {
 }
 
 fn is_clear_of(at: usize, length: usize, c: Chunk) -> bool
-    requires { ⌜ (at + length < 2 ^ 64) × (c .start + c .size + footer < 2 ^ 64) ⌝ }
+    requires { ⌜ (at + length < 2 ^ 64) × (pastOf c < 2 ^ 64) ⌝ }
     ensures { λ r. ⌜ r ≡ misses at length c ⌝ }
 {
     if at + length <= c.start {

@@ -6,7 +6,7 @@ ghost use lib.Dec.{eqb};
 ghost use Rattle.rounding.specs.Every.{every};
 ghost use Rattle.rounding.specs.Round.{oneBit};
 ghost use Rattle.arena.specs.Numbers.{places};
-ghost use Rattle.arena.specs.Record.{chunkAt, chunksOf, recordOf};
+ghost use Rattle.arena.specs.Record.{pastOf, chunkAt, chunksOf, recordOf};
 ghost use Rattle.arena.specs.Sound.{
   allowedAlign,
   allowedMinimum,
@@ -127,7 +127,8 @@ pub enum Row {
     Unordered,
 }
 
-// Chunks that were never reset ascend, each from past the one before it, and so are apart without a test of every pair.
+// Chunks mostly ascend, each from past the one taken before it, and are then apart without a test of every pair. They need not after a reset, nor where
+// a large alignment left a gap that a later chunk was placed in.
 fn chunk_row<'a>(
     h: Head,
     starts: &'a [usize; 32],
@@ -160,7 +161,7 @@ fn chunk_row<'a>(
 }
 
 fn are_clear(c: Chunk, d: Chunk) -> bool
-    requires { ⌜ (c .start + c .size + 48 < 2 ^ 64) × (d .start + d .size + 48 < 2 ^ 64) ⌝ }
+    requires { ⌜ (pastOf c < 2 ^ 64) × (pastOf d < 2 ^ 64) ⌝ }
     ensures { λ r. ⌜ r ≡ clear c d ⌝ }
 {
     if c.start + c.size + Arena::FOOTER <= d.start {

@@ -1,0 +1,55 @@
+-- `calls::allocate::allocate` meets its contract: an unsound record or another region's length is refused, and the rest is the sound record's.
+-- Assumes nothing.
+use Prim.Native.Nat.{ℕ}
+use mathlib.Core.Path.{sym, _∙_, ap}
+use Rattle.rounding.proofs.Tests.{taken-false, left-true}
+use Rattle.calls.specs.Allocate.{allocateOf}
+use Rattle.calls.proofs.Requests.{allocate-state, allocate-region}
+use borrow.Author.Needs.{needs}
+use Rattle.calls.proofs.allocate.allocate.Statement.{statement}
+use Rattle.calls.proofs.allocate.allocate.Tie as tie
+
+is-sound-requires : tie.Need-is-sound-requires
+is-sound-requires c κs = search needs
+
+refused-requires : tie.Need-refused-requires
+refused-requires c κs = search needs
+
+returns : tie.Need-returns
+returns c =
+    let t = c .before .before in
+    let s = t .before .before .before .before .before .before .before in
+    c .refused .ensures
+    ∙ sym (allocate-state (s .args .t1) _ (s .args .size) (s .args .align) (taken-false (t .is-sound .ensures) (c .before .if1 .taken)))
+
+refused-requires-2 : tie.Need-refused-requires-2
+refused-requires-2 c κs = search needs
+
+returns-2 : tie.Need-returns-2
+returns-2 c =
+    let t = c .before .before .before in
+    let s = t .before .before .before .before .before .before .before in
+    c .refused2 .ensures
+    ∙ sym
+    (allocate-region (s .args .t1) _ (s .args .size) (s .args .align) (left-true (t .is-sound .ensures) (c .before .before .if1 .left))
+    (c .before .if2 .taken))
+
+allocate-sound-requires : tie.Need-allocate-sound-requires
+allocate-sound-requires c κs = left-true (c .before .before .is-sound .ensures) (c .before .if1 .left)
+
+returns-3 : tie.Need-returns-3
+returns-3 c =
+    let s = c .before .before .before .before .before .before .before .before .before .before in
+    c .allocate-sound .ensures ∙ sym (ap (λ (lent : ℕ). allocateOf (s .args .t1) lent (s .args .size) (s .args .align)) (c .before .if2 .left))
+
+pub allocate-spec : {M : Type 1} → statement M
+allocate-spec =
+    tie.close
+    (tie.spec
+    is-sound-requires
+    refused-requires
+    returns
+    refused-requires-2
+    returns-2
+    allocate-sound-requires
+    returns-3)

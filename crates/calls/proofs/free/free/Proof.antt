@@ -1,0 +1,29 @@
+-- `calls::free::free` meets its contract: an unsound record is refused, and the rest is the sound record's. Assumes nothing.
+use mathlib.Core.Path.{sym, _∙_}
+use Rattle.rounding.proofs.Tests.{taken-false, left-true}
+use Rattle.calls.proofs.Freeing.{free-state}
+use borrow.Author.Needs.{needs}
+use Rattle.calls.proofs.free.free.Statement.{statement}
+use Rattle.calls.proofs.free.free.Tie as tie
+
+is-sound-requires : tie.Need-is-sound-requires
+is-sound-requires c κs = search needs
+
+refused-requires : tie.Need-refused-requires
+refused-requires c κs = search needs
+
+returns : tie.Need-returns
+returns c =
+    let t = c .before .before in
+    let s = t .before .before .before .before .before .before in
+    c .refused .ensures
+    ∙ sym (free-state (s .args .t1) (s .args .offset) (s .args .size) (s .args .align) (taken-false (t .is-sound .ensures) (c .before .if1 .taken)))
+
+free-sound-requires : tie.Need-free-sound-requires
+free-sound-requires c κs = left-true (c .before .is-sound .ensures) (c .if1 .left)
+
+returns-2 : tie.Need-returns-2
+returns-2 c = c .free-sound .ensures
+
+pub free-spec : {M : Type 1} → statement M
+free-spec = tie.close (tie.spec is-sound-requires refused-requires returns free-sound-requires returns-2)

@@ -1,0 +1,76 @@
+-- `calls::resize::resize` meets its contract: an unsound record or another region's length is refused, and the rest is the sound record's.
+-- Assumes nothing.
+use Prim.Native.Nat.{ℕ, min}
+use mathlib.Core.Path.{_≡_, sym, _∙_, ap}
+use lib.ListN.{length}
+use Rattle.arena.specs.Record.{heldOf}
+use Rattle.calls.specs.declared.Allocation.{Allocation}
+use Rattle.calls.specs.Allocate.{given}
+use Rattle.calls.specs.Bytes.{carried, afterGiven}
+use Rattle.calls.specs.Resize.{resizeIn, resizeOf, resizeBytes}
+use Rattle.calls.specs.Inner.{lentTests}
+use Rattle.calls.proofs.Answering.{stopped-first, bytes-shown}
+use Rattle.calls.proofs.Resizing.{resizeRest}
+use Rattle.calls.proofs.Testing.{tests-refuse, tests-pass, lent-passes}
+use borrow.Author.Needs.{needs}
+use Rattle.calls.proofs.resize.resize.Statement.{statement}
+use Rattle.calls.proofs.resize.resize.Tie as tie
+
+lent-answer-requires : tie.Need-lent-answer-requires
+lent-answer-requires c κs = search needs
+
+enum-known-r : tie.Need-enum-known-r
+enum-known-r c = search needs
+
+refused-requires : tie.Need-refused-requires
+refused-requires c κs = search needs
+
+stopped : (c : tie.After-refused) →
+    let s = c .before .before .before .before .before .before .args in
+    c .refused .result ≡ resizeOf (s .a) (length (s .region .now)) (s .offset) (s .old) (s .align) (s .new)
+unfolding resizeOf
+stopped c =
+    let t = c .before .before .before .before in
+    let s = t .before .before .args in
+    c .refused .ensures
+    ∙ sym
+    (stopped-first (s .a) (lentTests (s .a) (length (s .region .now))) (resizeRest (s .a) (s .offset) (s .old) (s .align) (s .new))
+    (resizeIn (s .a .head) (heldOf (s .a)) (s .offset) (s .old) (s .align) (s .new))
+    (tests-refuse _ (sym (c .before .before .r .given .1) ∙ t .lent-answer .ensures)))
+
+returns : tie.Need-returns
+unfolding resizeBytes given afterGiven
+returns c =
+    let s = c .before .before .before .before .before .before .args in (
+      stopped c,
+      bytes-shown (λ (to : ℕ). carried (s .region .now) (s .offset) to (min (s .old) (s .new))) (s .region .now) (stopped c) (ap (λ (o : Allocation). o .answer) (c .refused .ensures)),
+    )
+
+enum-told : tie.Need-enum-told
+enum-told c = search needs
+
+resize-sound-requires : tie.Need-resize-sound-requires
+resize-sound-requires c κs =
+    let t = c .before .before .before in
+    let s = t .before .before .args in
+    let lent = lent-passes (s .a) (length (s .region .now)) (tests-pass _ (sym (c .before .enum-told .given .1) ∙ t .lent-answer .ensures)) in
+    (lent .sound, lent .whole)
+
+same-length : tie.Need-same-length
+same-length c = search needs
+
+returns-2 : tie.Need-returns-2
+returns-2 c = c .before .before .resize-sound .ensures
+
+pub resize-spec : {M : Type 1} → statement M
+resize-spec =
+    tie.close
+    (tie.spec
+    lent-answer-requires
+    enum-known-r
+    refused-requires
+    returns
+    enum-told
+    resize-sound-requires
+    same-length
+    returns-2)

@@ -1,0 +1,10 @@
+pub mod Bytes
+pub mod Tests
+pub mod Allocate
+pub mod Free
+pub mod Grow
+pub mod Shrink
+pub mod Resize
+pub mod Token
+pub mod Write
+pub mod Inner

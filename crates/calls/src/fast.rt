@@ -1,0 +1,51 @@
+// The current chunk's answer, without the ladder (`try_alloc_layout_fast` in the Rust).
+ghost use mathlib.Core.Path.{_≡_};
+ghost use Prim.Native.Nat.{_≤_, _<_};
+ghost use Rattle.arena.specs.Numbers.{most, largestAlign, largestMinimum};
+ghost use Rattle.arena.specs.Record.{chunksOf, recordOf};
+ghost use Rattle.calls.specs.Allocate.{chunkGives};
+ghost use Rattle.calls.specs.Inner.{fastOf, currentPointer, Tested};
+use arena::Chunk;
+use arena::Head;
+use arena::sizing::larger;
+use arena::table::chunk_at;
+
+pub enum Fast {
+    Room(usize),
+    Full,
+}
+
+// The new pointer in this chunk, which is also the block's offset.
+pub fn chunk_gives(minimum: usize, c: Chunk, size: usize, align: usize) -> Fast
+    requires { ⌜ (0 < minimum) × (minimum ≤ largestMinimum) × (0 < align) × (align ≤ largestAlign) × (size ≤ most) ⌝ }
+    ensures { λ r. ⌜ r ≡ fastOf (chunkGives minimum c size align) ⌝ }
+{
+    let top = rounding::round_down_to(c.pointer, align);
+    if top < c.start {
+        return Fast::Full;
+    }
+    let needed = rounding::round_up_to(size, larger(align, minimum));
+    if top - c.start < needed {
+        return Fast::Full;
+    }
+    Fast::Room(top - needed)
+}
+
+pub fn current_gives<'a>(
+    h: Head,
+    starts: &'a [usize; 32],
+    sizes: &'a [usize; 32],
+    pointers: &'a [usize; 32],
+    size: usize,
+    align: usize,
+) -> Fast
+    requires { ⌜ Tested (recordOf h (now starts) (now sizes) (now pointers)) size align ⌝ }
+    ensures { λ r. ⌜ r ≡ fastOf (currentPointer (h .minimum) (chunksOf (now (starts .entry)) (now (sizes .entry)) (now (pointers .entry)) (h .count)) size align) ⌝ }
+{
+    let count = h.count;
+    if count == 0 {
+        return Fast::Full;
+    }
+    let c = chunk_at(starts, sizes, pointers, count - 1);
+    chunk_gives(h.minimum, c, size, align)
+}

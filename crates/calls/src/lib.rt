@@ -1,0 +1,39 @@
+// The calls of document 01 by value: the record goes in, and comes back beside the answer.
+pub mod allocate;
+mod block;
+mod bytes;
+mod fast;
+pub mod free;
+pub mod grow;
+pub mod lend;
+mod refusals;
+pub mod resize;
+pub mod shrink;
+pub mod tokens;
+pub mod write;
+
+use arena::Arena;
+use arena::Refusal;
+
+// What a call that gives out a block answers.
+pub enum Given {
+    At(usize),
+    Refused(Refusal),
+}
+
+pub struct Allocation {
+    pub answer: Given,
+    pub arena: Arena,
+}
+
+// What allocate with a token records: the chunk count and the current pointer before it.
+pub struct Token {
+    pub count: usize,
+    pub pointer: usize,
+}
+
+pub struct TokenAllocation {
+    pub answer: Given,
+    pub token: Token,
+    pub arena: Arena,
+}

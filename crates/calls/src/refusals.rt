@@ -1,0 +1,91 @@
+// The tests that calls share, in the order of the refusals' numbers. Each function answers the first refusal that applies, or that none does.
+ghost use mathlib.Core.Path.{_≡_};
+ghost use mathlib.Core.Bool.{true};
+ghost use Rattle.arena.specs.Sound.{soundOf};
+ghost use Rattle.calls.specs.Inner.{lentTests, blockTests, changeTests, firstOf};
+use crate::block::is_acceptable;
+use arena::Answer;
+use arena::Arena;
+use arena::Refusal;
+use arena::sound::is_allowed_align;
+use arena::sound::is_sound;
+
+// STATE and REGION, of a call that is lent bytes.
+pub fn lent_answer(a: Arena, lent: usize) -> Answer
+    ensures { λ r. ⌜ r ≡ firstOf (lentTests a lent) ⌝ }
+{
+    if !is_sound(a.head, &a.starts, &a.sizes, &a.pointers) {
+        return Answer::Refused(Refusal::State);
+    }
+    if lent != a.head.region {
+        return Answer::Refused(Refusal::Region);
+    }
+    Answer::Done
+}
+
+// SIZE, ALIGN and BLOCK, of a call that names a block of a sound record.
+pub fn block_answer(a: Arena, offset: usize, size: usize, align: usize) -> Answer
+    requires { ⌜ soundOf a ≡ true ⌝ }
+    ensures { λ r. ⌜ r ≡ firstOf (blockTests a offset size align) ⌝ }
+{
+    if Arena::MOST < size {
+        return Answer::Refused(Refusal::Size);
+    }
+    if !is_allowed_align(align) {
+        return Answer::Refused(Refusal::Align);
+    }
+    if !is_acceptable(
+        a.head,
+        &a.starts,
+        &a.sizes,
+        &a.pointers,
+        offset,
+        size,
+        align,
+    ) {
+        return Answer::Refused(Refusal::Block);
+    }
+    Answer::Done
+}
+
+// SIZE, ALIGN, BLOCK and DIRECTION, of a call that asks for another size or alignment of such a block.
+pub fn change_answer(
+    a: Arena,
+    offset: usize,
+    old: usize,
+    old_align: usize,
+    new: usize,
+    new_align: usize,
+    backwards: bool,
+) -> Answer
+    requires { ⌜ soundOf a ≡ true ⌝ }
+    ensures { λ r. ⌜ r ≡ firstOf (changeTests a offset old «old_align» new «new_align» backwards) ⌝ }
+{
+    if Arena::MOST < old {
+        return Answer::Refused(Refusal::Size);
+    }
+    if Arena::MOST < new {
+        return Answer::Refused(Refusal::Size);
+    }
+    if !is_allowed_align(old_align) {
+        return Answer::Refused(Refusal::Align);
+    }
+    if !is_allowed_align(new_align) {
+        return Answer::Refused(Refusal::Align);
+    }
+    if !is_acceptable(
+        a.head,
+        &a.starts,
+        &a.sizes,
+        &a.pointers,
+        offset,
+        old,
+        old_align,
+    ) {
+        return Answer::Refused(Refusal::Block);
+    }
+    if backwards {
+        return Answer::Refused(Refusal::Direction);
+    }
+    Answer::Done
+}

@@ -1,0 +1,191 @@
+// Allocate with a token, and cancel (`RewindGuard` in the Rust): a token says what the arena was before its block.
+ghost use mathlib.Core.Path.{_≡_};
+ghost use mathlib.Core.Bool.{true};
+ghost use mathlib.Core.Option.{none, some};
+ghost use Prim.Native.Nat.{_≤_};
+ghost use lib.ListN.{length};
+ghost use Rattle.arena.specs.Numbers.{places};
+ghost use Rattle.arena.specs.Record.{chunksOf, recordOf, heldOf, holding};
+ghost use Rattle.arena.specs.Sound.{soundOf};
+ghost use Rattle.calls.specs.Allocate.{given};
+ghost use Rattle.calls.specs.Token.{tokenFor, withTokenOf, badToken, rewound, cancelOf};
+ghost use Rattle.calls.specs.Inner.{withToken};
+use crate::Allocation;
+use crate::Given;
+use crate::Token;
+use crate::TokenAllocation;
+use crate::allocate::allocate_sound;
+use arena::Answer;
+use arena::Arena;
+use arena::Head;
+use arena::Outcome;
+use arena::Refusal;
+use arena::sound::is_sound;
+use arena::table::chunk_at;
+use arena::table::with_pointer;
+
+fn token_for<'a>(
+    h: Head,
+    starts: &'a [usize; 32],
+    sizes: &'a [usize; 32],
+    pointers: &'a [usize; 32],
+) -> Token
+    requires { ⌜ h .count ≤ places ⌝ }
+    ensures { λ r. ⌜ r ≡ tokenFor (chunksOf (now (starts .entry)) (now (sizes .entry)) (now (pointers .entry)) (h .count)) ⌝ }
+{
+    let count = h.count;
+    if count == 0 {
+        return Token {
+            count: 0,
+            pointer: 0,
+        };
+    }
+    let last = count - 1;
+    Token {
+        count: count,
+        pointer: pointers[last],
+    }
+}
+
+// A refused allocation says 0 and 0.
+fn with_token(got: Allocation, token: Token) -> TokenAllocation
+    ensures { λ r. ⌜ r ≡ withToken got token ⌝ }
+{
+    let answer = got.answer;
+    let arena = got.arena;
+    let Given::At(_) = answer else {
+        return TokenAllocation {
+            answer: answer,
+            token: Token {
+                count: 0,
+                pointer: 0,
+            },
+            arena: arena,
+        };
+    };
+    TokenAllocation {
+        answer: answer,
+        token: token,
+        arena: arena,
+    }
+}
+
+// On a record that is known to be sound, lent its own region.
+pub fn allocate_with_token_sound(a: Arena, size: usize, align: usize) -> TokenAllocation
+    requires { ⌜ soundOf a ≡ true ⌝ }
+    ensures { λ r. ⌜ r ≡ withTokenOf a (a .head .region) size align ⌝ }
+{
+    let token = token_for(a.head, &a.starts, &a.sizes, &a.pointers);
+    let got = allocate_sound(a, size, align);
+    with_token(got, token)
+}
+
+// The record goes back as it came.
+fn refused_token(a: Arena, r: Refusal) -> TokenAllocation
+    ensures { λ out. ⌜ out ≡ withToken (given (some r) a none) (tokenFor (heldOf a)) ⌝ }
+{
+    TokenAllocation {
+        answer: Given::Refused(r),
+        token: Token {
+            count: 0,
+            pointer: 0,
+        },
+        arena: a,
+    }
+}
+
+pub fn allocate_with_token(a: Arena, region: &[u8], size: usize, align: usize) -> TokenAllocation
+    ensures { λ r. ⌜ r ≡ withTokenOf a (length (now (region .entry))) size align ⌝ }
+{
+    if !is_sound(a.head, &a.starts, &a.sizes, &a.pointers) {
+        return refused_token(a, Refusal::State);
+    }
+    if region.len() != a.head.region {
+        return refused_token(a, Refusal::Region);
+    }
+    allocate_with_token_sound(a, size, align)
+}
+
+// With a smaller count the chunk was taken for the block, and the recorded pointer is not looked at.
+fn is_bad_token<'a>(
+    h: Head,
+    starts: &'a [usize; 32],
+    sizes: &'a [usize; 32],
+    pointers: &'a [usize; 32],
+    offset: usize,
+    token: Token,
+) -> bool
+    requires { ⌜ soundOf (recordOf h (now starts) (now sizes) (now pointers)) ≡ true ⌝ }
+    ensures { λ r. ⌜ r ≡ badToken (h .minimum) (chunksOf (now (starts .entry)) (now (sizes .entry)) (now (pointers .entry)) (h .count)) offset token ⌝ }
+{
+    let count = h.count;
+    if count < token.count {
+        return true;
+    }
+    if token.count != count {
+        return false;
+    }
+    if count == 0 {
+        return false;
+    }
+    let c = chunk_at(starts, sizes, pointers, count - 1);
+    if offset != c.pointer {
+        return false;
+    }
+    if token.pointer < c.pointer {
+        return true;
+    }
+    if c.start + c.size < token.pointer {
+        return true;
+    }
+    !rounding::is_multiple(token.pointer, h.minimum)
+}
+
+// Only a block at the current pointer can be taken back.
+fn rewind(a: Arena, offset: usize, token: Token) -> Arena
+    requires { ⌜ soundOf a ≡ true ⌝ }
+    ensures { λ r. ⌜ r ≡ holding (a .head) (rewound (heldOf a) offset token) ⌝ }
+{
+    let count = a.head.count;
+    if count == 0 {
+        return a;
+    }
+    let c = chunk_at(&a.starts, &a.sizes, &a.pointers, count - 1);
+    if offset != c.pointer {
+        return a;
+    }
+    if token.count == count {
+        return with_pointer(a, token.pointer);
+    }
+    with_pointer(a, c.start + c.size)
+}
+
+// On a record that is known to be sound.
+pub fn cancel_sound(a: Arena, offset: usize, token: Token) -> Outcome
+    requires { ⌜ soundOf a ≡ true ⌝ }
+    ensures { λ r. ⌜ r ≡ cancelOf a offset token ⌝ }
+{
+    if is_bad_token(a.head, &a.starts, &a.sizes, &a.pointers, offset, token) {
+        return Outcome {
+            answer: Answer::Refused(Refusal::Token),
+            arena: a,
+        };
+    }
+    let back = rewind(a, offset, token);
+    Outcome {
+        answer: Answer::Done,
+        arena: back,
+    }
+}
+
+pub fn cancel(a: Arena, offset: usize, token: Token) -> Outcome
+    ensures { λ r. ⌜ r ≡ cancelOf a offset token ⌝ }
+{
+    if !is_sound(a.head, &a.starts, &a.sizes, &a.pointers) {
+        return Outcome {
+            answer: Answer::Refused(Refusal::State),
+            arena: a,
+        };
+    }
+    cancel_sound(a, offset, token)
+}

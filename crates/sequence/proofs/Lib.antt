@@ -1,0 +1,17 @@
+pub mod Cases
+pub mod Changes
+pub mod Endings
+pub mod Giving
+pub mod Hearing
+pub mod Histories
+pub mod Invariant
+pub mod Keeping
+pub mod Known
+pub mod Lists
+pub mod Moves
+pub mod Naming
+pub mod Requests
+pub mod Room
+pub mod Spaces
+pub mod Theorem
+pub mod Writes
