@@ -1,20 +1,18 @@
 -- What a call that gives out a block answers, by the parts of its tests, and the region's bytes by that answer. Assumes nothing.
 use Prim.Native.Nat.{ℕ}
-use native.Mathlib.Omega.{arith}
 use mathlib.Core.List.{List, _++_}
 use mathlib.Core.Option.{Option, none, some}
-use mathlib.Core.Path.{_≡_, refl, sym, _∙_, ap}
+use mathlib.Core.Path.{_≡_, sym, _∙_, ap}
 use Rattle.arena.specs.declared.Arena.{Arena}
 use Rattle.arena.specs.declared.Refusal.{Refusal}
 use Rattle.arena.specs.Refusals.{Test, refusedBy}
 use Rattle.calls.specs.declared.Given.{Given}
-use Rattle.calls.specs.declared.Given.the-variants.{At}
 use Rattle.calls.specs.declared.Allocation.{Allocation}
 use Rattle.calls.specs.Allocate.{Taken, given}
 use Rattle.calls.specs.Bytes.{afterGiven}
 use Rattle.calls.proofs.Testing.{refused-before, passed-before}
 
--- the first part of the tests refuses; it refuses nothing, and the rest does; neither does
+-- the first part of the tests refuses; or it refuses nothing, and the rest does
 module _ (a : Arena) (ts us : List Test) (taken : Option Taken) where
   pub stopped-first : {r : Refusal} → refusedBy ts ≡ some r → given (refusedBy (ts ++ us)) a taken ≡ given (some r) a none
   unfolding given
@@ -23,17 +21,6 @@ module _ (a : Arena) (ts us : List Test) (taken : Option Taken) where
   pub stopped-later : {r : Refusal} → refusedBy ts ≡ none → refusedBy us ≡ some r → given (refusedBy (ts ++ us)) a taken ≡ given (some r) a none
   unfolding given
   stopped-later p e = ap (λ o. given o a taken) (passed-before ts us p ∙ e)
-
-  pub unstopped : refusedBy ts ≡ none → refusedBy us ≡ none → given (refusedBy (ts ++ us)) a taken ≡ given none a taken
-  unstopped p e = ap (λ o. given o a taken) (passed-before ts us p ∙ e)
-
--- a block is given where nothing is refused and the rules serve it
-pub given-at : {offset : ℕ} (a : Arena) (refusal : Option Refusal) (taken : Option Taken) → given refusal a taken .answer ≡ At offset →
-    (refusal ≡ none) × (t : Taken) × (taken ≡ some t) × (t .offset ≡ offset)
-unfolding given
-given-at a (some r) taken e = absurd (let z : _≡_ {A = ℕ} 0 1 = cc in omega arith)
-given-at a none none e = absurd (let z : _≡_ {A = ℕ} 0 1 = cc in omega arith)
-given-at a none (some t) e = (refl, t, refl, cc)
 
 -- the bytes are those of the case that the answer shows
 pub bytes-shown : (make : ℕ → List ℕ) (bytes : List ℕ) {answer got : Allocation} {g : Given} → got ≡ answer → got .answer ≡ g →

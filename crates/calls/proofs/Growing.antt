@@ -1,13 +1,13 @@
 -- What the code of grow finds, stage by stage, is what its definition goes by: the pointer in place, then a fresh block. Assumes nothing.
-use Prim.Native.Nat.{ℕ, _+_, _-_, _≤_, _<_}
+use Prim.Native.Nat.{ℕ, _-_, _≤_, _<_}
 use mathlib.Core.Bool.{Bool, true, false, cond, _&&_}
 use mathlib.Core.List.{List}
-use mathlib.Core.Option.{Option, none, some, Option·none-ne-some}
-use mathlib.Core.Path.{_≡_, refl, _∙_, ap}
+use mathlib.Core.Option.{none, some, Option·none-ne-some}
+use mathlib.Core.Path.{_≡_, refl, ap}
 use lib.Dec.{leb}
 use borrow.Author.Tests.{le-leb, lt-leb}
 use Rattle.rounding.specs.Round.{roundUp}
-use Rattle.rounding.proofs.Tests.{and-left, and-right, and-both, refute, true-false}
+use Rattle.rounding.proofs.Tests.{and-right, and-both, refute, true-false}
 use Rattle.arena.specs.declared.Head.{Head}
 use Rattle.arena.specs.declared.Chunk.{Chunk}
 use Rattle.arena.specs.Inner.{movedTo}

@@ -1,103 +1,73 @@
--- What the Rust library's Allocator page says of the bytes, from the definitions: a served grow preserves the old bytes, grow_zeroed has zeros after them, a
--- served shrink preserves the first new-size bytes, and a resize what both sizes have. Every byte outside the block stands, and a refusal changes none.
--- Assumes nothing.
+-- The Rust library's Allocator page, in parts of the region: a served grow preserves the old bytes, `grow_zeroed` has zeros after them, a served shrink preserves
+-- the first new-size bytes, and a resize what both sizes have. Byte by byte, and with what stays, this is in `Carrying`. Assumes nothing.
 use Prim.Native.Nat.{ℕ, _+_, _-_, _≤_, _<_, min}
-use native.Mathlib.Omega.{arith}
 use native.Mathlib.Nat.{min-le-left, min-le-right}
+use native.Mathlib.Omega.{arith}
 use mathlib.Core.List.{List}
-use mathlib.Core.Path.{_≡_, refl, sym, _∙_, ap}
-use lib.ListN.{length, getD, replicate, length-replicate}
+use mathlib.Core.Path.{_≡_, sym, _∙_, ap}
+use lib.ListN.{length, getD, replicate, length-replicate, getD-replicate}
+use lib.Seq.{ext-getD}
 use Rattle.arena.specs.declared.Arena.{Arena}
-use Rattle.arena.specs.declared.Refusal.{Refusal}
-use Rattle.calls.specs.declared.Given.{Given}
-use Rattle.calls.specs.declared.Given.the-variants.{At, Refused}
-use Rattle.calls.specs.Bytes.{written, part, carried, afterGiven}
+use Rattle.calls.specs.declared.Given.the-variants.{At}
+use Rattle.calls.specs.Bytes.{part}
 use Rattle.calls.specs.Grow.{growOf, growBytes, growZeroedBytes}
 use Rattle.calls.specs.Shrink.{shrinkOf, shrinkBytes}
 use Rattle.calls.specs.Resize.{resizeOf, resizeBytes}
-use Rattle.calls.proofs.Changing.{Placed, grow-served, shrink-served}
+use Rattle.calls.proofs.Carrying.{Carries, grow-carries, grow-zeroed-carries, shrink-carries, resize-carries}
+use Rattle.calls.proofs.Changing.{grow-served, shrink-served}
 use Rattle.calls.proofs.Resizing.{resize-served}
-use Rattle.calls.proofs.Writing.{length-carried, part-carried-same, carried-elsewhere, length-written, part-written-same, part-written-apart, written-elsewhere}
+use Rattle.calls.proofs.Writing.{length-part, getD-part}
 
--- n carried bytes stand at their new place, and every other byte where it stood
-pub record Carried (bytes : List ℕ) (offset to n : ℕ) (after : List ℕ) : Type 0 where
-  pub kept : part after to n ≡ part bytes offset n
-  pub elsewhere : (x : ℕ) → (to ≤ x → x < to + n → ⊥) → getD after x 0 ≡ getD bytes x 0
+-- two parts that read the same are equal
+same-part : (after bytes : List ℕ) (to offset n : ℕ) → to + n ≤ length after → offset + n ≤ length bytes →
+    ((i : ℕ) → i < n → getD after (to + i) 0 ≡ getD bytes (offset + i) 0) → part after to n ≡ part bytes offset n
+same-part after bytes to offset n room source reads =
+    let long = length-part after to n room in
+    ext-getD 0 (part after to n) (part bytes offset n) (long ∙ sym (length-part bytes offset n source))
+    (λ i h. getD-part after to n i (omega arith) ∙ reads i (omega arith) ∙ sym (getD-part bytes offset n i (omega arith)))
 
-carries : (bytes : List ℕ) (offset to n : ℕ) → offset + n ≤ length bytes → to + n ≤ length bytes → {after : List ℕ} → after ≡ carried bytes offset to n →
-    Carried bytes offset to n after
-carries bytes offset to n source room e =
-    record {
-      kept = ap (λ (l : List ℕ). part l to n) e ∙ part-carried-same bytes offset to n source room;
-      elsewhere = λ x apart. ap (λ (l : List ℕ). getD l x 0) e ∙ carried-elsewhere bytes offset to n source room x apart;
-    }
+kept : {bytes after : List ℕ} {offset to n size : ℕ} → Carries bytes after offset to n size → to + n ≤ length bytes → offset + n ≤ length bytes →
+    part after to n ≡ part bytes offset n
+kept {bytes} {after} {offset} {to} {n} c room source = same-part after bytes to offset n (omega (arith, c .only .same-length)) source (c .reads)
 
--- the bytes by the answer's case
-served : (make : ℕ → List ℕ) (bytes : List ℕ) {g : Given} {to : ℕ} → g ≡ At to → afterGiven g make bytes ≡ make to
-unfolding afterGiven
-served make bytes e = ap (λ (g : Given). afterGiven g make bytes) e
-
-refused : (make : ℕ → List ℕ) (bytes : List ℕ) {g : Given} {r : Refusal} → g ≡ Refused r → afterGiven g make bytes ≡ bytes
-unfolding afterGiven
-refused make bytes e = ap (λ (g : Given). afterGiven g make bytes) e
-
-module _ (a : Arena) (bytes : List ℕ) (offset old oldAlign new newAlign : ℕ) where
-  pub grow-keeps : {to : ℕ} → growOf a (length bytes) offset old oldAlign new newAlign .answer ≡ At to →
-      Carried bytes offset to old (growBytes a bytes offset old oldAlign new newAlign)
-  unfolding growBytes
-  grow-keeps {to} e =
+module _ (a : Arena) (bytes : List ℕ) (offset old oldAlign new newAlign to : ℕ) where
+  pub grow-keeps : growOf a (length bytes) offset old oldAlign new newAlign .answer ≡ At to →
+      part (growBytes a bytes offset old oldAlign new newAlign) to old ≡ part bytes offset old
+  grow-keeps e =
       let (is, up) = grow-served a (length bytes) offset old oldAlign new newAlign e in
-      carries bytes offset to old (is .source) (omega (arith, is .room)) (served (λ (p : ℕ). carried bytes offset p old) bytes e)
+      kept (grow-carries a bytes offset old oldAlign new newAlign to e) (omega (arith, is .room)) (is .source)
 
-  pub grow-refused-keeps : {r : Refusal} → growOf a (length bytes) offset old oldAlign new newAlign .answer ≡ Refused r →
-      growBytes a bytes offset old oldAlign new newAlign ≡ bytes
-  unfolding growBytes
-  grow-refused-keeps e = refused (λ (p : ℕ). carried bytes offset p old) bytes e
-
-  -- the old bytes, then zeros to the new size
-  pub grow-zeroed-keeps : {to : ℕ} → growOf a (length bytes) offset old oldAlign new newAlign .answer ≡ At to →
-      (part (growZeroedBytes a bytes offset old oldAlign new newAlign) to old ≡ part bytes offset old)
-      × (part (growZeroedBytes a bytes offset old oldAlign new newAlign) (to + old) (new - old) ≡ replicate (new - old) 0)
-  unfolding growZeroedBytes
-  grow-zeroed-keeps {to} e =
+  pub grow-zeroed-keeps : growOf a (length bytes) offset old oldAlign new newAlign .answer ≡ At to →
+      part (growZeroedBytes a bytes offset old oldAlign new newAlign) to old ≡ part bytes offset old
+  grow-zeroed-keeps e =
       let (is, up) = grow-served a (length bytes) offset old oldAlign new newAlign e in
-      let room : to + old ≤ length bytes = omega (arith, is .room) in
-      let zeros : List ℕ = replicate (new - old) 0 in
-      let moved = carried bytes offset to old in
-      let long : length zeros ≡ new - old = length-replicate {A = ℕ} (new - old) 0 in
-      let same = length-carried bytes offset to old (is .source) room in
-      let fits : to + old + length zeros ≤ length moved = omega (arith, is .room) in
-      let after = served (λ (p : ℕ). written (carried bytes offset p old) (p + old) (replicate (new - old) 0)) bytes e in (
-        ap (λ (l : List ℕ). part l to old) after
-            ∙ part-written-apart moved (to + old) zeros fits to old (λ x low high at past. omega arith)
-            ∙ part-carried-same bytes offset to old (is .source) room,
-        ap (λ (l : List ℕ). part l (to + old) (new - old)) after
-            ∙ ap (part (written moved (to + old) zeros) (to + old)) (sym long)
-            ∙ part-written-same moved (to + old) zeros fits,
-      )
+      kept (grow-zeroed-carries a bytes offset old oldAlign new newAlign to e .kept) (omega (arith, is .room)) (is .source)
 
-  pub shrink-keeps : {to : ℕ} → shrinkOf a (length bytes) offset old oldAlign new newAlign .answer ≡ At to →
-      Carried bytes offset to new (shrinkBytes a bytes offset old oldAlign new newAlign)
-  unfolding shrinkBytes
-  shrink-keeps {to} e =
+  pub grow-zeroed-clears : growOf a (length bytes) offset old oldAlign new newAlign .answer ≡ At to →
+      part (growZeroedBytes a bytes offset old oldAlign new newAlign) (to + old) (new - old) ≡ replicate (new - old) 0
+  grow-zeroed-clears e =
+      let (is, up) = grow-served a (length bytes) offset old oldAlign new newAlign e in
+      let is-zeroed = grow-zeroed-carries a bytes offset old oldAlign new newAlign to e in
+      let after = growZeroedBytes a bytes offset old oldAlign new newAlign in
+      let count : length {A = ℕ} (replicate (new - old) 0) ≡ new - old = length-replicate (new - old) 0 in
+      let long = length-part after (to + old) (new - old) (omega (arith, is .room, is-zeroed .kept .only .same-length)) in
+      ext-getD 0 (part after (to + old) (new - old)) (replicate (new - old) 0) (long ∙ sym count)
+      (λ i h.
+      let place : to + old + i ≡ to + (old + i) = omega arith in
+      getD-part after (to + old) (new - old) i (omega arith)
+      ∙ ap (λ (k : ℕ). getD after k 0) place
+      ∙ is-zeroed .zeros (old + i) (omega arith) (omega arith)
+      ∙ sym (getD-replicate (new - old) i 0 0 (omega arith)))
+
+  pub shrink-keeps : shrinkOf a (length bytes) offset old oldAlign new newAlign .answer ≡ At to →
+      part (shrinkBytes a bytes offset old oldAlign new newAlign) to new ≡ part bytes offset new
+  shrink-keeps e =
       let (is, down) = shrink-served a (length bytes) offset old oldAlign new newAlign e in
-      carries bytes offset to new (omega (arith, is .source)) (is .room) (served (λ (p : ℕ). carried bytes offset p new) bytes e)
+      kept (shrink-carries a bytes offset old oldAlign new newAlign to e) (is .room) (omega (arith, is .source))
 
-  pub shrink-refused-keeps : {r : Refusal} → shrinkOf a (length bytes) offset old oldAlign new newAlign .answer ≡ Refused r →
-      shrinkBytes a bytes offset old oldAlign new newAlign ≡ bytes
-  unfolding shrinkBytes
-  shrink-refused-keeps e = refused (λ (p : ℕ). carried bytes offset p new) bytes e
-
-module _ (a : Arena) (bytes : List ℕ) (offset old align new : ℕ) where
-  pub resize-keeps : 0 < old → {to : ℕ} → resizeOf a (length bytes) offset old align new .answer ≡ At to →
-      Carried bytes offset to (min old new) (resizeBytes a bytes offset old align new)
-  unfolding resizeBytes
-  resize-keeps l {to} e =
-      let is = resize-served a offset old align new (length bytes) l e in
-      carries bytes offset to (min old new) (omega (arith, is .source, min-le-left old new)) (omega (arith, is .room, min-le-right old new))
-      (served (λ (p : ℕ). carried bytes offset p (min old new)) bytes e)
-
-  pub resize-refused-keeps : {r : Refusal} → resizeOf a (length bytes) offset old align new .answer ≡ Refused r →
-      resizeBytes a bytes offset old align new ≡ bytes
-  unfolding resizeBytes
-  resize-refused-keeps e = refused (λ (p : ℕ). carried bytes offset p (min old new)) bytes e
+-- a block of size 0 has nothing to keep, and its offset may be any number
+pub resize-keeps : (a : Arena) (bytes : List ℕ) (offset old align new to : ℕ) → 0 < old → resizeOf a (length bytes) offset old align new .answer ≡ At to →
+    part (resizeBytes a bytes offset old align new) to (min old new) ≡ part bytes offset (min old new)
+resize-keeps a bytes offset old align new to l e =
+    let is = resize-served a offset old align new (length bytes) l e in
+    kept (resize-carries a bytes offset old align new to e) (omega (arith, is .room, min-le-right old new)) (omega (arith, is .source, min-le-left old new))

@@ -1,11 +1,9 @@
 -- What resize answers: of old size 0 what allocate does, and else what a shrink or a grow at one alignment does. Assumes nothing.
-use Prim.Native.Nat.{ℕ, _+_, _≤_, _<_, min}
+use Prim.Native.Nat.{ℕ, _<_, min}
 use native.Mathlib.Omega.{arith}
 use native.Mathlib.Nat.{min-le-left}
-use native.Mathlib.Decide.{decLe}
 use mathlib.Core.Bool.{Bool, true, false, not, _&&_, _||_}
 use mathlib.Core.List.{List, [], _∷_}
-use mathlib.Core.Option.{none, some}
 use mathlib.Core.Path.{_≡_, refl, sym, _∙_, ap}
 use lib.Dec.{eqb}
 use borrow.Author.Tests.{ne-eqb}
@@ -13,18 +11,16 @@ use Rattle.arena.specs.declared.Arena.{Arena}
 use Rattle.arena.specs.declared.Refusal.the-variants.{Align, Block}
 use Rattle.arena.specs.Record.{heldOf}
 use Rattle.arena.specs.Refusals.{Test, test, refusedBy}
-use Rattle.arena.specs.Sound.{allowedAlign, soundOf}
+use Rattle.arena.specs.Sound.{allowedAlign}
 use Rattle.calls.specs.declared.Given.{Given}
 use Rattle.calls.specs.declared.Given.the-variants.{At, Refused}
 use Rattle.calls.specs.Bytes.{carried, afterGiven}
 use Rattle.calls.specs.Tests.{acceptable, sizesTest, alignTest}
-use Rattle.calls.specs.Allocate.{Taken, allocateOf}
+use Rattle.calls.specs.Allocate.{allocateOf}
 use Rattle.calls.specs.Resize.{resizeIn, resizeTests, resizeOf}
-use Rattle.calls.specs.Inner.{lentTests, changeTests}
-use Rattle.calls.proofs.Answering.{given-at}
-use Rattle.calls.proofs.Changing.{Change, change-passes, Placed, grow-placed, shrink-placed}
-use Rattle.calls.proofs.Needing.{resize-down, resize-up}
-use Rattle.calls.proofs.Testing.{lent-passes, passes-both}
+use Rattle.calls.specs.Inner.{changeTests}
+use Rattle.calls.proofs.Changing.{Placed}
+use Rattle.calls.proofs.Results.{given-at, resize-result}
 use Rattle.calls.proofs.Writing.{carried-nothing}
 
 or-same : (b : Bool) → (b || b) ≡ b
@@ -57,22 +53,10 @@ module _ (a : Arena) (offset old align new : ℕ) where
       ap (carried bytes offset to) none-kept ∙ carried-nothing bytes offset to
   nothing-carried bytes (Refused r) e = refl
 
-  resize-placed : soundOf a ≡ true → Change a offset old align new align false → 0 < old → {t : Taken} →
-      resizeIn (a .head) (heldOf a) offset old align new ≡ some t → Placed (a .head .region) offset old (t .offset) new
-  resize-placed s ch l {t} e = go (decLe new old)
-    where
-      go : Dec (new ≤ old) → Placed (a .head .region) offset old (t .offset) new
-      go (yes m) = shrink-placed a offset old align new align s ch m (sym (resize-down (a .head) (heldOf a) offset old align new l m) ∙ e)
-      go (no g) = grow-placed a offset old align new align s ch (sym (resize-up (a .head) (heldOf a) offset old align new l (omega arith)) ∙ e)
-
-  -- of any record and any numbers: where a block is answered for one of a size above 0, both lie in the lent bytes
+  -- of any record and any numbers: where a block is answered for one of a size above 0, its old and its new bytes lie in the region
   pub resize-served : (lent : ℕ) → 0 < old → {to : ℕ} → resizeOf a lent offset old align new .answer ≡ At to → Placed lent offset old to new
   unfolding resizeOf
   resize-served lent l e =
-      let (passes, t, gives, here) =
-      given-at a (refusedBy (resizeTests a lent offset old align new)) (resizeIn (a .head) (heldOf a) offset old align new) e in
-      let parts = passes-both (lentTests a lent) (resizeRest a offset old align new) passes in
-      let region = lent-passes a lent (parts .0) in
-      let ch = change-passes a offset old align new align false (sym (as-change (λ z. omega arith)) ∙ parts .1) in
-      let is = resize-placed (region .sound) ch l gives in
-      record { source = omega (arith, is .source, region .whole); room = omega (arith, is .room, region .whole) }
+      let found = given-at a (refusedBy (resizeTests a lent offset old align new)) (resizeIn (a .head) (heldOf a) offset old align new) e in
+      let is = resize-result a lent offset old align new (found .passed) (found .gives) in
+      record { source = is .old-inside l; room = omega (arith, is .inside, found .there) }

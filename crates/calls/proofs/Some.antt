@@ -1,10 +1,9 @@
 -- What holds of some element of a list: the first element settles it, or leaves it to the rest. Assumes nothing.
 use mathlib.Core.Bool.{Bool, true, false, _||_}
 use mathlib.Core.List.{List, [], _∷_}
-use mathlib.Core.Logic.{⊎-elim}
 use mathlib.Core.Path.{_≡_, refl, ap}
-use Rattle.rounding.specs.Every.{Each, any}
-use Rattle.rounding.proofs.Tests.{true-false, or-left, or-cases}
+use Rattle.rounding.specs.Every.{any}
+use Rattle.rounding.proofs.Tests.{or-left}
 
 module _ {A : Type 0} (test : A → Bool) where
   pub any-now : (x : A) (xs : List A) → test x ≡ true → any test (x ∷ xs) ≡ true
@@ -18,9 +17,3 @@ module _ {A : Type 0} (test : A → Bool) where
   pub any-none : any test [] ≡ false
   unfolding any
   any-none = refl
-
-  -- what follows of each element that passes the test follows where some element does
-  pub any-open : {P : Type 0} (xs : List A) → any test xs ≡ true → Each (λ x. test x ≡ true → P) xs → P
-  unfolding any
-  any-open [] t h = absurd (true-false t refl)
-  any-open (x ∷ xs) t h = ⊎-elim (h .0) (λ u. any-open xs u (h .1)) (or-cases (test x) (any test xs) t)

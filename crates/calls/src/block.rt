@@ -56,7 +56,7 @@ pub fn is_acceptable<'a>(
     false
 }
 
-// The block that was given out last, if it was not moved since.
+// What was given out last stands at the current pointer.
 pub fn is_at_pointer<'a>(
     h: Head,
     starts: &'a [usize; 32],

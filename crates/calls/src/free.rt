@@ -1,4 +1,4 @@
-// Free (`dealloc` in the Rust): the bytes of the block at the current pointer can be given out again, those of any other block not before a reset.
+// Free (`dealloc` in the Rust). Only the bytes of the block at the current pointer can be given out again; those of any other block wait for a reset.
 ghost use mathlib.Core.Path.{_≡_};
 ghost use mathlib.Core.Bool.{true};
 ghost use Prim.Native.Nat.{_+_, _≤_};
@@ -15,7 +15,8 @@ use arena::Refusal;
 use arena::sound::is_sound;
 use arena::table::with_pointer;
 
-pub fn refused(a: Arena, r: Refusal) -> Outcome
+// The record goes back as it came.
+fn refused(a: Arena, r: Refusal) -> Outcome
     ensures { λ o. ⌜ o ≡ record { answer = Refused r; arena = a } ⌝ }
 {
     Outcome {
@@ -24,8 +25,8 @@ pub fn refused(a: Arena, r: Refusal) -> Outcome
     }
 }
 
-// The work, on a record that is known to be sound and a block that lies in the region. The size is not rounded by the alignment, so the bytes between
-// two blocks that an alignment left unused stay unused.
+// The work, on a record that is known to be sound and a block that lies in the region. The pointer goes past the block's own bytes only: what its alignment
+// took beyond them stays unused.
 pub fn free_tested(a: Arena, offset: usize, size: usize) -> Arena
     requires { ⌜ (soundOf a ≡ true) × (offset + size ≤ a .head .region) ⌝ }
     ensures { λ r. ⌜ r ≡ holding (a .head) (freed (a .head .minimum) (heldOf a) offset size) ⌝ }
@@ -42,7 +43,15 @@ pub fn free_sound(a: Arena, offset: usize, size: usize, align: usize) -> Outcome
     requires { ⌜ soundOf a ≡ true ⌝ }
     ensures { λ r. ⌜ r ≡ freeOf a offset size align ⌝ }
 {
-    if let Answer::Refused(r) = block_answer(a, offset, size, align) {
+    if let Answer::Refused(r) = block_answer(
+        a.head,
+        &a.starts,
+        &a.sizes,
+        &a.pointers,
+        offset,
+        size,
+        align,
+    ) {
         return refused(a, r);
     }
     let held = free_tested(a, offset, size);

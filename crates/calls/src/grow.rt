@@ -25,11 +25,11 @@ use arena::table::with_pointer;
 
 // The block at the current pointer grows downwards: the bytes that it lacks are asked of the current chunk, and it starts where they start.
 //
-//            to              offset        offset + old
-//     before  .               [ old bytes . ]
-//     after   [ old bytes . ]   new bytes   .
+//            to            offset      to + old    offset + old
+//     before  .             [ old bytes . . . . . . ]
+//     after   [ old bytes . . . . . . ] . new bytes .
 //
-// Where fewer bytes are added than it has, old and new place overlap.
+// Where it grows by fewer bytes than it has, as here, the two places overlap.
 fn in_place(
     a: Arena,
     offset: usize,
@@ -88,7 +88,10 @@ pub fn grow_sound(
     ensures { λ r. ⌜ now (region .exit) ≡ growBytes a (now (region .entry)) offset old «old_align» new «new_align» ⌝ }
 {
     if let Answer::Refused(r) = change_answer(
-        a,
+        a.head,
+        &a.starts,
+        &a.sizes,
+        &a.pointers,
         offset,
         old,
         old_align,
@@ -119,7 +122,13 @@ pub fn grow(
     ensures { λ r. ⌜ r ≡ growOf a (length (now (region .entry))) offset old «old_align» new «new_align» ⌝ }
     ensures { λ r. ⌜ now (region .exit) ≡ growBytes a (now (region .entry)) offset old «old_align» new «new_align» ⌝ }
 {
-    if let Answer::Refused(r) = lent_answer(a, region.len()) {
+    if let Answer::Refused(r) = lent_answer(
+        a.head,
+        &a.starts,
+        &a.sizes,
+        &a.pointers,
+        region.len(),
+    ) {
         return refused(a, r);
     }
     grow_sound(a, region, offset, old, old_align, new, new_align)

@@ -11,10 +11,18 @@ use arena::Arena;
 fn answer_of(a: Arena, lent: usize, offset: usize, size: usize, align: usize) -> Answer
     ensures { λ r. ⌜ r ≡ lendOf a lent offset size align ⌝ }
 {
-    if let Answer::Refused(r) = lent_answer(a, lent) {
+    if let Answer::Refused(r) = lent_answer(a.head, &a.starts, &a.sizes, &a.pointers, lent) {
         return Answer::Refused(r);
     }
-    block_answer(a, offset, size, align)
+    block_answer(
+        a.head,
+        &a.starts,
+        &a.sizes,
+        &a.pointers,
+        offset,
+        size,
+        align,
+    )
 }
 
 pub fn lend_answer(a: Arena, region: &[u8], offset: usize, size: usize, align: usize) -> Answer

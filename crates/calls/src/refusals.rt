@@ -1,32 +1,49 @@
-// The tests that calls share, in the order of the refusals' numbers. Each function answers the first refusal that applies, or that none does.
+// The tests that calls share, in the order of the refusals' numbers. Each function answers the first refusal that applies, or that none does. They only read, so
+// the record is lent in parts.
 ghost use mathlib.Core.Path.{_≡_};
 ghost use mathlib.Core.Bool.{true};
+ghost use Rattle.arena.specs.Record.{recordOf};
 ghost use Rattle.arena.specs.Sound.{soundOf};
 ghost use Rattle.calls.specs.Inner.{lentTests, blockTests, changeTests, firstOf};
 use crate::block::is_acceptable;
 use arena::Answer;
 use arena::Arena;
+use arena::Head;
 use arena::Refusal;
 use arena::sound::is_allowed_align;
 use arena::sound::is_sound;
 
 // STATE and REGION, of a call that is lent bytes.
-pub fn lent_answer(a: Arena, lent: usize) -> Answer
-    ensures { λ r. ⌜ r ≡ firstOf (lentTests a lent) ⌝ }
+pub fn lent_answer<'a>(
+    h: Head,
+    starts: &'a [usize; 32],
+    sizes: &'a [usize; 32],
+    pointers: &'a [usize; 32],
+    lent: usize,
+) -> Answer
+    ensures { λ r. ⌜ r ≡ firstOf (lentTests (recordOf h (now (starts .entry)) (now (sizes .entry)) (now (pointers .entry))) lent) ⌝ }
 {
-    if !is_sound(a.head, &a.starts, &a.sizes, &a.pointers) {
+    if !is_sound(h, starts, sizes, pointers) {
         return Answer::Refused(Refusal::State);
     }
-    if lent != a.head.region {
+    if lent != h.region {
         return Answer::Refused(Refusal::Region);
     }
     Answer::Done
 }
 
 // SIZE, ALIGN and BLOCK, of a call that names a block of a sound record.
-pub fn block_answer(a: Arena, offset: usize, size: usize, align: usize) -> Answer
-    requires { ⌜ soundOf a ≡ true ⌝ }
-    ensures { λ r. ⌜ r ≡ firstOf (blockTests a offset size align) ⌝ }
+pub fn block_answer<'a>(
+    h: Head,
+    starts: &'a [usize; 32],
+    sizes: &'a [usize; 32],
+    pointers: &'a [usize; 32],
+    offset: usize,
+    size: usize,
+    align: usize,
+) -> Answer
+    requires { ⌜ soundOf (recordOf h (now starts) (now sizes) (now pointers)) ≡ true ⌝ }
+    ensures { λ r. ⌜ r ≡ firstOf (blockTests (recordOf h (now (starts .entry)) (now (sizes .entry)) (now (pointers .entry))) offset size align) ⌝ }
 {
     if Arena::MOST < size {
         return Answer::Refused(Refusal::Size);
@@ -34,23 +51,18 @@ pub fn block_answer(a: Arena, offset: usize, size: usize, align: usize) -> Answe
     if !is_allowed_align(align) {
         return Answer::Refused(Refusal::Align);
     }
-    if !is_acceptable(
-        a.head,
-        &a.starts,
-        &a.sizes,
-        &a.pointers,
-        offset,
-        size,
-        align,
-    ) {
+    if !is_acceptable(h, starts, sizes, pointers, offset, size, align) {
         return Answer::Refused(Refusal::Block);
     }
     Answer::Done
 }
 
 // SIZE, ALIGN, BLOCK and DIRECTION, of a call that asks for another size or alignment of such a block.
-pub fn change_answer(
-    a: Arena,
+pub fn change_answer<'a>(
+    h: Head,
+    starts: &'a [usize; 32],
+    sizes: &'a [usize; 32],
+    pointers: &'a [usize; 32],
     offset: usize,
     old: usize,
     old_align: usize,
@@ -58,8 +70,8 @@ pub fn change_answer(
     new_align: usize,
     backwards: bool,
 ) -> Answer
-    requires { ⌜ soundOf a ≡ true ⌝ }
-    ensures { λ r. ⌜ r ≡ firstOf (changeTests a offset old «old_align» new «new_align» backwards) ⌝ }
+    requires { ⌜ soundOf (recordOf h (now starts) (now sizes) (now pointers)) ≡ true ⌝ }
+    ensures { λ r. ⌜ r ≡ firstOf (changeTests (recordOf h (now (starts .entry)) (now (sizes .entry)) (now (pointers .entry))) offset old «old_align» new «new_align» backwards) ⌝ }
 {
     if Arena::MOST < old {
         return Answer::Refused(Refusal::Size);
@@ -73,15 +85,7 @@ pub fn change_answer(
     if !is_allowed_align(new_align) {
         return Answer::Refused(Refusal::Align);
     }
-    if !is_acceptable(
-        a.head,
-        &a.starts,
-        &a.sizes,
-        &a.pointers,
-        offset,
-        old,
-        old_align,
-    ) {
+    if !is_acceptable(h, starts, sizes, pointers, offset, old, old_align) {
         return Answer::Refused(Refusal::Block);
     }
     if backwards {

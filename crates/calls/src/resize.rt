@@ -5,7 +5,7 @@ ghost use mathlib.Core.Option.{none};
 ghost use Prim.Native.Nat.{_+_, _<_, _≤_, min};
 ghost use lib.ListN.{length};
 ghost use Rattle.arena.specs.Record.{heldOf};
-ghost use Rattle.arena.specs.Sound.{allowedAlign, soundOf};
+ghost use Rattle.arena.specs.Sound.{soundOf};
 ghost use Rattle.calls.specs.Allocate.{given};
 ghost use Rattle.calls.specs.Resize.{resizeIn, resizeOf, resizeBytes};
 ghost use Rattle.calls.specs.Inner.{Tested};
@@ -55,7 +55,18 @@ pub fn resize_sound(
     if old == 0 {
         return allocate_sound(a, new, align);
     }
-    if let Answer::Refused(r) = change_answer(a, offset, old, align, new, align, false) {
+    if let Answer::Refused(r) = change_answer(
+        a.head,
+        &a.starts,
+        &a.sizes,
+        &a.pointers,
+        offset,
+        old,
+        align,
+        new,
+        align,
+        false,
+    ) {
         return refused(a, r);
     }
     let got = resized_block(a, offset, old, align, new);
@@ -78,7 +89,13 @@ pub fn resize(
     ensures { λ r. ⌜ r ≡ resizeOf a (length (now (region .entry))) offset old align new ⌝ }
     ensures { λ r. ⌜ now (region .exit) ≡ resizeBytes a (now (region .entry)) offset old align new ⌝ }
 {
-    if let Answer::Refused(r) = lent_answer(a, region.len()) {
+    if let Answer::Refused(r) = lent_answer(
+        a.head,
+        &a.starts,
+        &a.sizes,
+        &a.pointers,
+        region.len(),
+    ) {
         return refused(a, r);
     }
     resize_sound(a, region, offset, old, align, new)

@@ -4,7 +4,6 @@ ghost use mathlib.Core.Bool.{true};
 ghost use mathlib.Core.Option.{none};
 ghost use Prim.Native.Nat.{_+_, _≤_};
 ghost use lib.ListN.{length};
-ghost use Rattle.arena.specs.Numbers.{most};
 ghost use Rattle.arena.specs.Record.{heldOf};
 ghost use Rattle.arena.specs.Sound.{soundOf};
 ghost use Rattle.calls.specs.Allocate.{given};
@@ -34,13 +33,13 @@ fn stay(a: Arena, offset: usize) -> Allocation
     }
 }
 
-// The block at the current pointer goes up by d, what it gives up, where its old and its new place share no byte.
+// The block at the current pointer goes up by d, the bytes that it gives up, where its old and its new place share no byte.
 //
-//            offset           offset + d      offset + old
-//     before  [ kept . . . . | given up . . . ]
-//     after                   [ kept . . . . ]
+//            offset      offset + new    offset + d    offset + old
+//     before  [ kept . . . ]                              .
+//     after                               [ kept . . . ]  .
 //
-// At least half of the old bytes, rounded up, have to be given up for that: from 5 bytes to 3 the halves would overlap.
+// For that d has to be half of the old bytes, rounded up: from 5 bytes to 3, d is 2, and the 3 kept bytes would overlap.
 fn shrunk_in_place(a: Arena, offset: usize, old: usize, d: usize) -> Allocation
     requires { ⌜ (soundOf a ≡ true) × (offset + old ≤ a .head .region) × (d ≤ old) ⌝ }
     ensures { λ r. ⌜ r ≡ given none a (shrunkInPlace (heldOf a) offset old d) ⌝ }
@@ -96,7 +95,10 @@ pub fn shrink_sound(
     ensures { λ r. ⌜ now (region .exit) ≡ shrinkBytes a (now (region .entry)) offset old «old_align» new «new_align» ⌝ }
 {
     if let Answer::Refused(r) = change_answer(
-        a,
+        a.head,
+        &a.starts,
+        &a.sizes,
+        &a.pointers,
         offset,
         old,
         old_align,
@@ -127,7 +129,13 @@ pub fn shrink(
     ensures { λ r. ⌜ r ≡ shrinkOf a (length (now (region .entry))) offset old «old_align» new «new_align» ⌝ }
     ensures { λ r. ⌜ now (region .exit) ≡ shrinkBytes a (now (region .entry)) offset old «old_align» new «new_align» ⌝ }
 {
-    if let Answer::Refused(r) = lent_answer(a, region.len()) {
+    if let Answer::Refused(r) = lent_answer(
+        a.head,
+        &a.starts,
+        &a.sizes,
+        &a.pointers,
+        region.len(),
+    ) {
         return refused(a, r);
     }
     shrink_sound(a, region, offset, old, old_align, new, new_align)

@@ -1,6 +1,6 @@
 -- `calls::block::is_at_pointer` meets its contract: the last held place is the current chunk. Assumes nothing.
 use native.Mathlib.Omega.{arith}
-use mathlib.Core.Path.{_≡_, sym, _∙_, ap}
+use mathlib.Core.Path.{sym, ap}
 use denote.Ref.{now}
 use Rattle.arena.specs.Record.{chunksOf}
 use Rattle.arena.proofs.View.{chunks-newest}

@@ -1,6 +1,6 @@
 -- `calls::grow::grown_block` meets its contract: the pointer in place moves, or else the block is a fresh one. Assumes nothing.
 use mathlib.Core.Option.{none}
-use mathlib.Core.Path.{_≡_, sym, _∙_, ap}
+use mathlib.Core.Path.{sym, _∙_, ap}
 use Rattle.arena.specs.Record.{heldOf}
 use Rattle.calls.specs.declared.Given.the-variants.{At}
 use Rattle.calls.specs.Allocate.{given}

@@ -1,18 +1,16 @@
 -- `calls::grow::in_place` meets its contract: each way out is a case of the pointer in place, and the bytes asked for stay within the maximum.
 -- Assumes nothing.
-use Prim.Native.Nat.{ℕ, _+_, _-_, _≤_, _∣_}
+use Prim.Native.Nat.{ℕ, _-_, _∣_}
 use native.Mathlib.Omega.{arith}
-use mathlib.Core.Path.{_≡_, sym, _∙_, ap}
-use Rattle.rounding.specs.Round.{roundUp}
+use mathlib.Core.Path.{sym, _∙_, ap}
 use Rattle.rounding.proofs.Powers.{power-positive, two-to-the, power-divides}
 use Rattle.rounding.proofs.Rounding.{up-at-least, up-least}
 use Rattle.rounding.proofs.Tests.{taken-false, left-true}
 use Rattle.arena.specs.Numbers.{most}
 use Rattle.arena.specs.Record.{heldOf}
-use Rattle.arena.proofs.Soundness.{HeadSound, sound-open}
+use Rattle.arena.proofs.Soundness.{sound-open}
 use Rattle.calls.specs.Inner.{fastOf, currentPointer}
 use Rattle.calls.proofs.Growing.{not-to-higher, not-elsewhere, there}
-use borrow.Author.Needs.{needs}
 use Rattle.calls.proofs.grow.in_place.Statement.{statement}
 use Rattle.calls.proofs.grow.in_place.Tie as tie
 

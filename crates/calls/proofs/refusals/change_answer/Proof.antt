@@ -7,13 +7,14 @@ use mathlib.Core.Option.{none, some}
 use mathlib.Core.Path.{_≡_, sym, _∙_, ap}
 use lib.Dec.{ltb}
 use borrow.Author.Needs.{needs}
+use denote.Ref.{now}
 use borrow.Author.Tests.{lt-ltb, le-ltb}
 use Rattle.rounding.proofs.Powers.{power-positive}
 use Rattle.rounding.proofs.Tests.{taken-false, left-true, true-not, false-not, or-left, or-right, or-neither}
 use Rattle.arena.specs.declared.Arena.{Arena}
 use Rattle.arena.specs.declared.Refusal.the-variants.{Size, Align, Block, Direction}
 use Rattle.arena.specs.Numbers.{most}
-use Rattle.arena.specs.Record.{heldOf}
+use Rattle.arena.specs.Record.{heldOf, recordOf}
 use Rattle.arena.specs.Refusals.{Test, test, refusedBy}
 use Rattle.arena.specs.Sound.{allowedAlign}
 use Rattle.arena.proofs.Refusing.{refused-now, refused-later, none-applies}
@@ -61,7 +62,7 @@ returns c =
     let s = c .before .args in
     sym
     (ap lendAnswer
-    (by-size (s .t1) (s .offset) (s .old) (s .old-align) (s .new) (s .new-align) (s .backwards) (or-left (ltb most (s .new)) (lt-ltb most (s .old) (c .if1 .taken)))))
+    (by-size (recordOf (s .h) (now (s .starts)) (now (s .sizes)) (now (s .pointers))) (s .offset) (s .old) (s .old-align) (s .new) (s .new-align) (s .backwards) (or-left (ltb most (s .new)) (lt-ltb most (s .old) (c .if1 .taken)))))
 
 returns-2 : tie.Need-returns-2
 unfolding lendAnswer
@@ -69,7 +70,7 @@ returns-2 c =
     let s = c .before .before .args in
     sym
     (ap lendAnswer
-    (by-size (s .t1) (s .offset) (s .old) (s .old-align) (s .new) (s .new-align) (s .backwards) (or-right (ltb most (s .old)) (lt-ltb most (s .new) (c .if2 .taken)))))
+    (by-size (recordOf (s .h) (now (s .starts)) (now (s .sizes)) (now (s .pointers))) (s .offset) (s .old) (s .old-align) (s .new) (s .new-align) (s .backwards) (or-right (ltb most (s .old)) (lt-ltb most (s .new) (c .if2 .taken)))))
 
 is-allowed-align-requires : tie.Need-is-allowed-align-requires
 is-allowed-align-requires c κs = search needs
@@ -82,7 +83,7 @@ returns-3 c =
     let off = false-not (taken-false (c .before .is-allowed-align .ensures) (c .if3 .taken)) in
     sym
     (ap lendAnswer
-    (by-align (s .t1) (s .offset) (s .old) (s .old-align) (s .new) (s .new-align) (s .backwards) (e .before .if1 .left) (e .if2 .left)
+    (by-align (recordOf (s .h) (now (s .starts)) (now (s .sizes)) (now (s .pointers))) (s .offset) (s .old) (s .old-align) (s .new) (s .new-align) (s .backwards) (e .before .if1 .left) (e .if2 .left)
     (or-left (not (allowedAlign (s .new-align))) off)))
 
 is-allowed-align-requires-2 : tie.Need-is-allowed-align-requires-2
@@ -96,7 +97,7 @@ returns-4 c =
     let off = false-not (taken-false (c .before .is-allowed-align2 .ensures) (c .if4 .taken)) in
     sym
     (ap lendAnswer
-    (by-align (s .t1) (s .offset) (s .old) (s .old-align) (s .new) (s .new-align) (s .backwards) (e .before .if1 .left) (e .if2 .left)
+    (by-align (recordOf (s .h) (now (s .starts)) (now (s .sizes)) (now (s .pointers))) (s .offset) (s .old) (s .old-align) (s .new) (s .new-align) (s .backwards) (e .before .if1 .left) (e .if2 .left)
     (or-right (not (allowedAlign (s .old-align))) off)))
 
 old-allowed : (c : tie.Else4) → allowedAlign (c .before .before .before .before .before .before .args .old-align) ≡ true
@@ -105,49 +106,48 @@ old-allowed c = left-true (c .before .before .before .is-allowed-align .ensures)
 -- the tests from the block on are left
 past : (c : tie.Else4) →
     let s = c .before .before .before .before .before .before .args in
-    refusedBy (changeTests (s .t1) (s .offset) (s .old) (s .old-align) (s .new) (s .new-align) (s .backwards))
-    ≡ refusedBy (blockTest (heldOf (s .t1)) (s .offset) (s .old) (s .old-align) ∷ (test Direction (s .backwards) ∷ []))
+    refusedBy (changeTests (recordOf (s .h) (now (s .starts)) (now (s .sizes)) (now (s .pointers))) (s .offset) (s .old) (s .old-align) (s .new) (s .new-align) (s .backwards))
+    ≡ refusedBy (blockTest (heldOf (recordOf (s .h) (now (s .starts)) (now (s .sizes)) (now (s .pointers)))) (s .offset) (s .old) (s .old-align) ∷ (test Direction (s .backwards) ∷ []))
 past c =
     let e = c .before .before .before .before in
     let s = e .before .before .args in
-    past-align (s .t1) (s .offset) (s .old) (s .old-align) (s .new) (s .new-align) (s .backwards) (e .before .if1 .left) (e .if2 .left)
+    past-align (recordOf (s .h) (now (s .starts)) (now (s .sizes)) (now (s .pointers))) (s .offset) (s .old) (s .old-align) (s .new) (s .new-align) (s .backwards) (e .before .if1 .left) (e .if2 .left)
     (old-allowed c) (left-true (c .before .is-allowed-align2 .ensures) (c .if4 .left))
 
 is-acceptable-requires : tie.Need-is-acceptable-requires
 is-acceptable-requires c κs =
-    let e = c .before .before .before .before .before in
-    (sound-ready (sound-open _ (e .before .before .before .before .before .before .pre)), power-positive (align-open _ (old-allowed e) .power))
+    (sound-ready (sound-open _ (c .before .before .before .before .before .before .pre)), power-positive (align-open _ (old-allowed c) .power))
 
 returns-5 : tie.Need-returns-5
 unfolding lendAnswer
 returns-5 c =
-    let e = c .before .before .before .before .before .before .before in
+    let e = c .before .before in
     let s = e .before .before .before .before .before .before .args in
     sym
     (ap lendAnswer
     (past e
-    ∙ by-block (s .t1) (s .offset) (s .old) (s .old-align) (s .new) (s .new-align) (s .backwards) (taken-false (c .before .is-acceptable .ensures) (c .if5 .taken))))
+    ∙ by-block (recordOf (s .h) (now (s .starts)) (now (s .sizes)) (now (s .pointers))) (s .offset) (s .old) (s .old-align) (s .new) (s .new-align) (s .backwards) (taken-false (c .before .is-acceptable .ensures) (c .if5 .taken))))
 
 returns-6 : tie.Need-returns-6
 unfolding lendAnswer
 returns-6 c =
-    let e = c .before .before .before .before .before .before .before .before in
+    let e = c .before .before .before in
     let s = e .before .before .before .before .before .before .args in
     sym
     (ap lendAnswer
     (past e
-    ∙ by-direction (s .t1) (s .offset) (s .old) (s .old-align) (s .new) (s .new-align) (s .backwards)
+    ∙ by-direction (recordOf (s .h) (now (s .starts)) (now (s .sizes)) (now (s .pointers))) (s .offset) (s .old) (s .old-align) (s .new) (s .new-align) (s .backwards)
     (left-true (c .before .before .is-acceptable .ensures) (c .before .if5 .left)) (c .if6 .taken)))
 
 returns-7 : tie.Need-returns-7
 unfolding lendAnswer
 returns-7 c =
-    let e = c .before .before .before .before .before .before .before .before in
+    let e = c .before .before .before in
     let s = e .before .before .before .before .before .before .args in
     sym
     (ap lendAnswer
     (past e
-    ∙ by-none (s .t1) (s .offset) (s .old) (s .old-align) (s .new) (s .new-align) (s .backwards)
+    ∙ by-none (recordOf (s .h) (now (s .starts)) (now (s .sizes)) (now (s .pointers))) (s .offset) (s .old) (s .old-align) (s .new) (s .new-align) (s .backwards)
     (left-true (c .before .before .is-acceptable .ensures) (c .before .if5 .left)) (c .if6 .left)))
 
 pub change-answer-spec : {M : Type 1} → statement M

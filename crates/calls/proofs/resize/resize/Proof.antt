@@ -16,6 +16,10 @@ use borrow.Author.Needs.{needs}
 use Rattle.calls.proofs.resize.resize.Statement.{statement}
 use Rattle.calls.proofs.resize.resize.Tie as tie
 
+-- where the function begins, from the answer of the tests
+abbrev start : tie.After-lent-answer → tie.Start
+start t = t .before .before .before .before .before .before .before
+
 lent-answer-requires : tie.Need-lent-answer-requires
 lent-answer-requires c κs = search needs
 
@@ -26,22 +30,22 @@ refused-requires : tie.Need-refused-requires
 refused-requires c κs = search needs
 
 stopped : (c : tie.After-refused) →
-    let s = c .before .before .before .before .before .before .args in
-    c .refused .result ≡ resizeOf (s .a) (length (s .region .now)) (s .offset) (s .old) (s .align) (s .new)
+    let s = start (c .before .before .before .before) .args in
+    c .refused .result ≡ resizeOf (s .t1) (length (s .region .now)) (s .offset) (s .old) (s .align) (s .new)
 unfolding resizeOf
 stopped c =
     let t = c .before .before .before .before in
-    let s = t .before .before .args in
+    let s = start t .args in
     c .refused .ensures
     ∙ sym
-    (stopped-first (s .a) (lentTests (s .a) (length (s .region .now))) (resizeRest (s .a) (s .offset) (s .old) (s .align) (s .new))
-    (resizeIn (s .a .head) (heldOf (s .a)) (s .offset) (s .old) (s .align) (s .new))
+    (stopped-first (s .t1) (lentTests (s .t1) (length (s .region .now))) (resizeRest (s .t1) (s .offset) (s .old) (s .align) (s .new))
+    (resizeIn (s .t1 .head) (heldOf (s .t1)) (s .offset) (s .old) (s .align) (s .new))
     (tests-refuse _ (sym (c .before .before .r .given .1) ∙ t .lent-answer .ensures)))
 
 returns : tie.Need-returns
 unfolding resizeBytes given afterGiven
 returns c =
-    let s = c .before .before .before .before .before .before .args in (
+    let s = start (c .before .before .before .before) .args in (
       stopped c,
       bytes-shown (λ (to : ℕ). carried (s .region .now) (s .offset) to (min (s .old) (s .new))) (s .region .now) (stopped c) (ap (λ (o : Allocation). o .answer) (c .refused .ensures)),
     )
@@ -52,8 +56,8 @@ enum-told c = search needs
 resize-sound-requires : tie.Need-resize-sound-requires
 resize-sound-requires c κs =
     let t = c .before .before .before in
-    let s = t .before .before .args in
-    let lent = lent-passes (s .a) (length (s .region .now)) (tests-pass _ (sym (c .before .enum-told .given .1) ∙ t .lent-answer .ensures)) in
+    let s = start t .args in
+    let lent = lent-passes (s .t1) (length (s .region .now)) (tests-pass _ (sym (c .before .enum-told .given .1) ∙ t .lent-answer .ensures)) in
     (lent .sound, lent .whole)
 
 same-length : tie.Need-same-length

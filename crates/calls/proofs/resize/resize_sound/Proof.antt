@@ -1,9 +1,8 @@
 -- `calls::resize::resize_sound` meets its contract: of old size 0 it is allocate, and else a refusal changes no byte and a served resize carries what both sizes
 -- have. Assumes nothing.
-use Prim.Native.Nat.{ℕ, min}
+use Prim.Native.Nat.{ℕ, _<_, min}
 use native.Mathlib.Omega.{arith}
 use native.Mathlib.Nat.{min-le-left, min-le-right}
-use mathlib.Core.Bool.{false}
 use mathlib.Core.Option.{none}
 use mathlib.Core.Path.{_≡_, sym, _∙_, ap}
 use lib.ListN.{length}
@@ -12,12 +11,13 @@ use Rattle.arena.specs.Refusals.{refusedBy}
 use Rattle.calls.specs.declared.Allocation.{Allocation}
 use Rattle.calls.specs.Allocate.{given, allocateOf}
 use Rattle.calls.specs.Bytes.{carried, afterGiven}
-use Rattle.calls.specs.Resize.{resizeIn, resizeOf, resizeBytes}
-use Rattle.calls.specs.Inner.{lentTests, changeTests}
-use Rattle.calls.proofs.Answering.{stopped-later, unstopped, bytes-shown}
-use Rattle.calls.proofs.Changing.{lent-own, change-passes, change-request}
+use Rattle.calls.specs.Resize.{resizeIn, resizeTests, resizeOf, resizeBytes}
+use Rattle.calls.specs.Inner.{lentTests}
+use Rattle.calls.proofs.Answering.{stopped-later, bytes-shown}
+use Rattle.calls.proofs.Changing.{lent-own, request-tested}
+use Rattle.calls.proofs.Passing.{resize-passes, resize-accepted}
 use Rattle.calls.proofs.Resizing.{resizeRest, as-change, resize-nothing, nothing-carried, resize-served}
-use Rattle.calls.proofs.Testing.{tests-refuse, tests-pass, block-inside}
+use Rattle.calls.proofs.Testing.{passed-before, tests-refuse, tests-pass, block-inside}
 use borrow.Author.Needs.{needs}
 use Rattle.calls.proofs.resize.resize_sound.Statement.{statement}
 use Rattle.calls.proofs.resize.resize_sound.Tie as tie
@@ -33,12 +33,19 @@ returns c =
     let lent = length (s .region .now) in
     let zero = c .before .if1 .taken in (
       c .allocate-sound .ensures
-          ∙ sym (resize-nothing (s .a) (s .offset) (s .old) (s .align) (s .new) lent zero ∙ ap (λ (n : ℕ). allocateOf (s .a) n (s .new) (s .align)) (e .pre .1)),
-      sym (nothing-carried (s .a) (s .offset) (s .old) (s .align) (s .new) (s .region .now) (resizeOf (s .a) lent (s .offset) (s .old) (s .align) (s .new) .answer) zero),
+          ∙ sym (resize-nothing (s .t1) (s .offset) (s .old) (s .align) (s .new) lent zero ∙ ap (λ (n : ℕ). allocateOf (s .t1) n (s .new) (s .align)) (e .pre .1)),
+      sym (nothing-carried (s .t1) (s .offset) (s .old) (s .align) (s .new) (s .region .now) (resizeOf (s .t1) lent (s .offset) (s .old) (s .align) (s .new) .answer) zero),
     )
 
+-- from the answer of the tests: that the size is above 0, and where the function begins
+abbrev above : tie.After-change-answer → tie.Else1
+above t = t .before .before .before .before .before .before
+
+abbrev begin : tie.After-change-answer → tie.Start
+begin t = above t .before .before
+
 change-answer-requires : tie.Need-change-answer-requires
-change-answer-requires c κs = search needs
+change-answer-requires c κs = c .before .before .before .before .before .before .before .pre .0
 
 enum-known-r : tie.Need-enum-known-r
 enum-known-r c = search needs
@@ -48,24 +55,24 @@ refused-requires c κs = search needs
 
 -- a refusal of the tests
 stopped : (c : tie.After-refused) →
-    let s = c .before .before .before .before .before .before .before .args in
-    c .refused .result ≡ resizeOf (s .a) (length (s .region .now)) (s .offset) (s .old) (s .align) (s .new)
+    let s = begin (c .before .before .before .before) .args in
+    c .refused .result ≡ resizeOf (s .t1) (length (s .region .now)) (s .offset) (s .old) (s .align) (s .new)
 unfolding resizeOf
 stopped c =
     let t = c .before .before .before .before in
-    let e = t .before .before .before in
+    let e = begin t in
     let s = e .args in
     c .refused .ensures
     ∙ sym
-    (stopped-later (s .a) (lentTests (s .a) (length (s .region .now))) (resizeRest (s .a) (s .offset) (s .old) (s .align) (s .new))
-    (resizeIn (s .a .head) (heldOf (s .a)) (s .offset) (s .old) (s .align) (s .new)) (lent-own (s .a) (e .pre .0) (e .pre .1))
-    (as-change (s .a) (s .offset) (s .old) (s .align) (s .new) (t .before .if1 .left)
+    (stopped-later (s .t1) (lentTests (s .t1) (length (s .region .now))) (resizeRest (s .t1) (s .offset) (s .old) (s .align) (s .new))
+    (resizeIn (s .t1 .head) (heldOf (s .t1)) (s .offset) (s .old) (s .align) (s .new)) (lent-own (s .t1) (e .pre .0) (e .pre .1))
+    (as-change (s .t1) (s .offset) (s .old) (s .align) (s .new) (above t .if1 .left)
     ∙ tests-refuse _ (sym (c .before .before .r .given .1) ∙ t .change-answer .ensures)))
 
 returns-2 : tie.Need-returns-2
 unfolding resizeBytes given afterGiven
 returns-2 c =
-    let s = c .before .before .before .before .before .before .before .args in (
+    let s = begin (c .before .before .before .before) .args in (
       stopped c,
       bytes-shown (λ (to : ℕ). carried (s .region .now) (s .offset) to (min (s .old) (s .new))) (s .region .now) (stopped c)
           (ap (λ (o : Allocation). o .answer) (c .refused .ensures)),
@@ -76,31 +83,36 @@ enum-told c = search needs
 
 -- no test refuses
 passed : (c : tie.After-enum-told) →
-    let s = c .before .before .before .before .before .args in
-    refusedBy (changeTests (s .a) (s .offset) (s .old) (s .align) (s .new) (s .align) false) ≡ none
-passed c = tests-pass _ (sym (c .enum-told .given .1) ∙ c .before .before .change-answer .ensures)
+    let s = begin (c .before .before) .args in
+    refusedBy (resizeTests (s .t1) (length (s .region .now)) (s .offset) (s .old) (s .align) (s .new)) ≡ none
+passed c =
+    let n = above (c .before .before) in
+    let e = begin (c .before .before) in
+    let s = e .args in
+    passed-before (lentTests (s .t1) (length (s .region .now))) (resizeRest (s .t1) (s .offset) (s .old) (s .align) (s .new)) (lent-own (s .t1) (e .pre .0) (e .pre .1))
+    ∙ as-change (s .t1) (s .offset) (s .old) (s .align) (s .new) (n .if1 .left)
+    ∙ tests-pass _ (sym (c .enum-told .given .1) ∙ c .before .before .change-answer .ensures)
 
 resized-block-requires : tie.Need-resized-block-requires
 resized-block-requires c κs =
-    let e = c .before .before .before .before .before in
+    let n = above (c .before .before) in
+    let e = begin (c .before .before) in
     let s = e .args in
-    let ch = change-passes (s .a) (s .offset) (s .old) (s .align) (s .new) (s .align) false (passed c) in
-    (change-request (e .pre .0) ch, (omega arith, block-inside (s .a) (s .offset) (s .old) (s .align) (e .pre .0) (ch .block)))
+    let some : 0 < s .old = omega (arith, n .if1 .left) in
+    let accepted = resize-accepted (s .t1) (length (s .region .now)) (s .offset) (s .old) (s .align) (s .new) (passed c) some in (
+      request-tested (resize-passes (s .t1) (length (s .region .now)) (s .offset) (s .old) (s .align) (s .new) (passed c)),
+      (some, block-inside (s .t1) (s .offset) (s .old) (s .align) (e .pre .0) accepted),
+    )
 
 -- the block's place, or ROOM, is what the definition answers
 answered : (c : tie.After-resized-block) →
-    let s = c .before .before .before .before .before .before .args in
-    c .resized-block .result ≡ resizeOf (s .a) (length (s .region .now)) (s .offset) (s .old) (s .align) (s .new)
+    let s = begin (c .before .before .before) .args in
+    c .resized-block .result ≡ resizeOf (s .t1) (length (s .region .now)) (s .offset) (s .old) (s .align) (s .new)
 unfolding resizeOf
 answered c =
-    let n = c .before .before .before .before in
-    let e = n .before .before in
-    let s = e .args in
+    let s = begin (c .before .before .before) .args in
     c .resized-block .ensures
-    ∙ sym
-    (unstopped (s .a) (lentTests (s .a) (length (s .region .now))) (resizeRest (s .a) (s .offset) (s .old) (s .align) (s .new))
-    (resizeIn (s .a .head) (heldOf (s .a)) (s .offset) (s .old) (s .align) (s .new)) (lent-own (s .a) (e .pre .0) (e .pre .1))
-    (as-change (s .a) (s .offset) (s .old) (s .align) (s .new) (n .if1 .left) ∙ passed (c .before)))
+    ∙ sym (ap (λ o. given o (s .t1) (resizeIn (s .t1 .head) (heldOf (s .t1)) (s .offset) (s .old) (s .align) (s .new))) (passed (c .before)))
 
 enum-known-answer : tie.Need-enum-known-answer
 enum-known-answer c = search needs
@@ -112,7 +124,7 @@ returns-3 : tie.Need-returns-3
 unfolding resizeBytes afterGiven
 returns-3 c =
     let g = c .before .before in
-    let s = g .before .before .before .before .before .before .args in (
+    let s = begin (g .before .before .before) .args in (
       answered g,
       bytes-shown (λ (to : ℕ). carried (s .region .now) (s .offset) to (min (s .old) (s .new))) (s .region .now) (answered g) (c .enum-told2 .given .1),
     )
@@ -123,9 +135,9 @@ smaller-requires c κs = search needs
 carry-requires : tie.Need-carry-requires
 carry-requires c κs =
     let g = c .before .before .before .before .before in
-    let s = g .before .before .before .before .before .before .args in
+    let s = begin (g .before .before .before) .args in
     let is =
-    resize-served (s .a) (s .offset) (s .old) (s .align) (s .new) (length (s .region .now)) (omega (arith, g .before .before .before .before .if1 .left))
+    resize-served (s .t1) (s .offset) (s .old) (s .align) (s .new) (length (s .region .now)) (omega (arith, above (g .before .before .before) .if1 .left))
     (sym (ap (λ (o : Allocation). o .answer) (answered g)) ∙ c .before .before .before .answer .given .1) in (
       omega (arith, is .source, c .smaller .ensures, min-le-left (s .old) (s .new)),
       omega (arith, is .room, c .smaller .ensures, min-le-right (s .old) (s .new)),
@@ -139,7 +151,7 @@ unfolding resizeBytes afterGiven
 returns-4 c =
     let m = c .before .before .before in
     let g = m .before .before .before .before .before in
-    let s = g .before .before .before .before .before .before .args in
+    let s = begin (g .before .before .before) .args in
     let at = m .before .before .before .answer .given in (
       answered g,
       c .before .before .carry .ensures

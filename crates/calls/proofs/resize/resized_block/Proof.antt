@@ -1,6 +1,6 @@
 -- `calls::resize::resized_block` meets its contract: a smaller or equal size is a shrink, a larger one a grow. Assumes nothing.
 use mathlib.Core.Option.{none}
-use mathlib.Core.Path.{_≡_, sym, _∙_, ap}
+use mathlib.Core.Path.{sym, _∙_, ap}
 use Rattle.arena.specs.Record.{heldOf}
 use Rattle.calls.specs.Allocate.{given}
 use Rattle.calls.proofs.Needing.{resize-down, resize-up}

@@ -2,8 +2,7 @@
 -- Assumes nothing.
 use Prim.Native.Nat.{ℕ}
 use native.Mathlib.Omega.{arith}
-use mathlib.Core.List.{List}
-use mathlib.Core.Option.{none, some}
+use mathlib.Core.Option.{none}
 use mathlib.Core.Path.{_≡_, sym, _∙_, ap}
 use lib.Dec.{ltb}
 use lib.ListN.{length}
@@ -12,17 +11,22 @@ use Rattle.arena.specs.Refusals.{refusedBy}
 use Rattle.calls.specs.declared.Allocation.{Allocation}
 use Rattle.calls.specs.Allocate.{given}
 use Rattle.calls.specs.Bytes.{carried, afterGiven}
-use Rattle.calls.specs.Shrink.{shrinkIn, shrinkOf, shrinkBytes}
+use Rattle.calls.specs.Shrink.{shrinkIn, shrinkTests, shrinkOf, shrinkBytes}
 use Rattle.calls.specs.Inner.{lentTests, changeTests}
-use Rattle.calls.proofs.Answering.{stopped-later, unstopped, bytes-shown}
-use Rattle.calls.proofs.Changing.{lent-own, change-passes, shrink-tested, shrink-served}
-use Rattle.calls.proofs.Testing.{tests-refuse, tests-pass}
+use Rattle.calls.proofs.Answering.{stopped-later, bytes-shown}
+use Rattle.calls.proofs.Changing.{lent-own, shrink-tested, shrink-served}
+use Rattle.calls.proofs.Passing.{shrink-passes}
+use Rattle.calls.proofs.Testing.{passed-before, tests-refuse, tests-pass}
 use borrow.Author.Needs.{needs}
 use Rattle.calls.proofs.shrink.shrink_sound.Statement.{statement}
 use Rattle.calls.proofs.shrink.shrink_sound.Tie as tie
 
+-- where the function begins, from the answer of the tests
+abbrev start : tie.After-change-answer → tie.Start
+start t = t .before .before .before .before .before .before .before
+
 change-answer-requires : tie.Need-change-answer-requires
-change-answer-requires c κs = search needs
+change-answer-requires c κs = c .before .before .before .before .before .before .pre .0
 
 enum-known-r : tie.Need-enum-known-r
 enum-known-r c = search needs
@@ -32,23 +36,23 @@ refused-requires c κs = search needs
 
 -- a refusal of the tests
 stopped : (c : tie.After-refused) →
-    let s = c .before .before .before .before .before .before .args in
-    c .refused .result ≡ shrinkOf (s .a) (length (s .region .now)) (s .offset) (s .old) (s .old-align) (s .new) (s .new-align)
+    let s = start (c .before .before .before .before) .args in
+    c .refused .result ≡ shrinkOf (s .t1) (length (s .region .now)) (s .offset) (s .old) (s .old-align) (s .new) (s .new-align)
 unfolding shrinkOf
 stopped c =
     let t = c .before .before .before .before in
-    let e = t .before .before in
+    let e = start t in
     let s = e .args in
     c .refused .ensures
     ∙ sym
-    (stopped-later (s .a) (lentTests (s .a) (length (s .region .now))) (changeTests (s .a) (s .offset) (s .old) (s .old-align) (s .new) (s .new-align) (ltb (s .old) (s .new)))
-    (shrinkIn (s .a .head) (heldOf (s .a)) (s .offset) (s .old) (s .old-align) (s .new) (s .new-align))
-    (lent-own (s .a) (e .pre .0) (e .pre .1)) (tests-refuse _ (sym (c .before .before .r .given .1) ∙ t .change-answer .ensures)))
+    (stopped-later (s .t1) (lentTests (s .t1) (length (s .region .now))) (changeTests (s .t1) (s .offset) (s .old) (s .old-align) (s .new) (s .new-align) (ltb (s .old) (s .new)))
+    (shrinkIn (s .t1 .head) (heldOf (s .t1)) (s .offset) (s .old) (s .old-align) (s .new) (s .new-align))
+    (lent-own (s .t1) (e .pre .0) (e .pre .1)) (tests-refuse _ (sym (c .before .before .r .given .1) ∙ t .change-answer .ensures)))
 
 returns : tie.Need-returns
 unfolding shrinkBytes given afterGiven
 returns c =
-    let s = c .before .before .before .before .before .before .args in (
+    let s = start (c .before .before .before .before) .args in (
       stopped c,
       bytes-shown (λ (to : ℕ). carried (s .region .now) (s .offset) to (s .new)) (s .region .now) (stopped c) (ap (λ (o : Allocation). o .answer) (c .refused .ensures)),
     )
@@ -58,29 +62,31 @@ enum-told c = search needs
 
 -- no test refuses
 passed : (c : tie.After-enum-told) →
-    let s = c .before .before .before .before .args in
-    refusedBy (changeTests (s .a) (s .offset) (s .old) (s .old-align) (s .new) (s .new-align) (ltb (s .old) (s .new))) ≡ none
-passed c = tests-pass _ (sym (c .enum-told .given .1) ∙ c .before .before .change-answer .ensures)
+    let s = start (c .before .before) .args in
+    refusedBy (shrinkTests (s .t1) (length (s .region .now)) (s .offset) (s .old) (s .old-align) (s .new) (s .new-align)) ≡ none
+passed c =
+    let e = start (c .before .before) in
+    let s = e .args in
+    passed-before (lentTests (s .t1) (length (s .region .now)))
+    (changeTests (s .t1) (s .offset) (s .old) (s .old-align) (s .new) (s .new-align) (ltb (s .old) (s .new)))
+    (lent-own (s .t1) (e .pre .0) (e .pre .1))
+    ∙ tests-pass _ (sym (c .enum-told .given .1) ∙ c .before .before .change-answer .ensures)
 
 shrunk-block-requires : tie.Need-shrunk-block-requires
 shrunk-block-requires c κs =
-    let e = c .before .before .before .before in
-    let s = e .args in
-    shrink-tested (e .pre .0) (change-passes (s .a) (s .offset) (s .old) (s .old-align) (s .new) (s .new-align) (ltb (s .old) (s .new)) (passed c))
+    let s = start (c .before .before) .args in
+    shrink-tested (shrink-passes (s .t1) (length (s .region .now)) (s .offset) (s .old) (s .old-align) (s .new) (s .new-align) (passed c))
 
 -- the block's place, or ROOM, is what the definition answers
 answered : (c : tie.After-shrunk-block) →
-    let s = c .before .before .before .before .before .args in
-    c .shrunk-block .result ≡ shrinkOf (s .a) (length (s .region .now)) (s .offset) (s .old) (s .old-align) (s .new) (s .new-align)
+    let s = start (c .before .before .before) .args in
+    c .shrunk-block .result ≡ shrinkOf (s .t1) (length (s .region .now)) (s .offset) (s .old) (s .old-align) (s .new) (s .new-align)
 unfolding shrinkOf
 answered c =
-    let e = c .before .before .before .before .before in
-    let s = e .args in
+    let s = start (c .before .before .before) .args in
     c .shrunk-block .ensures
     ∙ sym
-    (unstopped (s .a) (lentTests (s .a) (length (s .region .now))) (changeTests (s .a) (s .offset) (s .old) (s .old-align) (s .new) (s .new-align) (ltb (s .old) (s .new)))
-    (shrinkIn (s .a .head) (heldOf (s .a)) (s .offset) (s .old) (s .old-align) (s .new) (s .new-align))
-    (lent-own (s .a) (e .pre .0) (e .pre .1)) (passed (c .before)))
+    (ap (λ o. given o (s .t1) (shrinkIn (s .t1 .head) (heldOf (s .t1)) (s .offset) (s .old) (s .old-align) (s .new) (s .new-align))) (passed (c .before)))
 
 enum-known-answer : tie.Need-enum-known-answer
 enum-known-answer c = search needs
@@ -92,17 +98,17 @@ returns-2 : tie.Need-returns-2
 unfolding shrinkBytes afterGiven
 returns-2 c =
     let g = c .before .before in
-    let s = g .before .before .before .before .before .args in
+    let s = start (g .before .before .before) .args in
     (answered g, bytes-shown (λ (to : ℕ). carried (s .region .now) (s .offset) to (s .new)) (s .region .now) (answered g) (c .enum-told2 .given .1))
 
 carry-requires : tie.Need-carry-requires
 carry-requires c κs =
     let g = c .before .before .before .before in
-    let s = g .before .before .before .before .before .args in
+    let s = start (g .before .before .before) .args in
     let (is, down) =
-    shrink-served (s .a) (length (s .region .now)) (s .offset) (s .old) (s .old-align) (s .new) (s .new-align)
+    shrink-served (s .t1) (length (s .region .now)) (s .offset) (s .old) (s .old-align) (s .new) (s .new-align)
     (sym (ap (λ (o : Allocation). o .answer) (answered g)) ∙ c .before .before .answer .given .1) in
-    (omega (arith, is .source), is .room)
+    (omega (arith, is .source), omega (arith, is .room))
 
 same-length : tie.Need-same-length
 same-length c = search needs
@@ -111,7 +117,7 @@ returns-3 : tie.Need-returns-3
 unfolding shrinkBytes afterGiven
 returns-3 c =
     let g = c .before .before .before .before .before .before .before in
-    let s = g .before .before .before .before .before .args in (
+    let s = start (g .before .before .before) .args in (
       answered g,
       c .before .before .carry .ensures
           ∙ bytes-shown (λ (to : ℕ). carried (s .region .now) (s .offset) to (s .new)) (s .region .now) (answered g) (c .before .before .before .before .before .answer .given .1),

@@ -1,5 +1,5 @@
 -- `calls::shrink::shrunk_block` meets its contract: in place by what is given up, at the same offset, or afresh. Assumes nothing.
-use Prim.Native.Nat.{ℕ, _-_, max}
+use Prim.Native.Nat.{ℕ, _-_}
 use native.Mathlib.Omega.{arith}
 use native.Mathlib.Nat.{le-max-left}
 use mathlib.Core.Option.{none}

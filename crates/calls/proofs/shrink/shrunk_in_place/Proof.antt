@@ -11,7 +11,6 @@ use Rattle.calls.specs.declared.Given.the-variants.{At}
 use Rattle.calls.specs.Allocate.{atPointer, given}
 use Rattle.calls.proofs.Pointing.{at-pointer-held}
 use Rattle.calls.proofs.Shrinking.{stays-elsewhere, stays-near, goes-up}
-use borrow.Author.Needs.{needs}
 use Rattle.calls.proofs.shrink.shrunk_in_place.Statement.{statement}
 use Rattle.calls.proofs.shrink.shrunk_in_place.Tie as tie
 

@@ -1,5 +1,5 @@
 -- `calls::shrink::stay` meets its contract: a sound record holds the chunks that it holds. Assumes nothing.
-use mathlib.Core.Path.{_≡_, sym}
+use mathlib.Core.Path.{sym}
 use Rattle.arena.proofs.Soundness.{sound-open}
 use Rattle.arena.proofs.View.{holding-held}
 use Rattle.calls.specs.declared.Given.the-variants.{At}
