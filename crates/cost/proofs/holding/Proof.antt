@@ -14,6 +14,12 @@ abbrev μ-loop : tie.MeasureT-loop
 loop-holds : tie.Need-loop-holds Inv-loop μ-loop
 loop-holds c = omega arith
 
+add-chunk-size : tie.Need-add-chunk-size Inv-loop μ-loop
+add-chunk-size c = omega arith
+
+chunk-size-requires : tie.Need-chunk-size-requires Inv-loop μ-loop
+chunk-size-requires c κs = search needs
+
 mul-out : tie.Need-mul-out Inv-loop μ-loop
 mul-out c = omega arith
 
@@ -51,7 +57,7 @@ loop-again : tie.Need-loop-again Inv-loop μ-loop
 loop-again c = omega arith
 
 returns : tie.Need-returns Inv-loop μ-loop
-returns c = omega arith
+returns c = search needs
 
 pub holding-spec : {M : Type 1} → statement M
 holding-spec =
@@ -60,6 +66,8 @@ holding-spec =
     Inv-loop
     μ-loop
     loop-holds
+    add-chunk-size
+    chunk-size-requires
     mul-out
     mul-out-2
     element-write-out

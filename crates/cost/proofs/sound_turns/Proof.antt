@@ -1,16 +1,15 @@
--- `cost::sound_turns` meets its contract: no more turns are found than were taken. Assumes nothing.
+-- `cost::sound_turns` meets its contract: it is safe, and no more turns are taken than were asked for. Assumes nothing.
 use Prim.Native.Nat.{_≤_, _<_, _-_}
 use native.Mathlib.Omega.{arith}
 use borrow.Author.Needs.{needs}
-use mathlib.Core.Logic.{⊎-elim}
 use Rattle.cost.proofs.sound_turns.Statement.{statement}
 use Rattle.cost.proofs.sound_turns.Tie as tie
 
 abbrev Inv-loop : tie.InvT-loop
-Inv-loop turns now₀ found₀ turn₀ now found turn = (turn ≤ turns) × (found ≤ turn)
+Inv-loop turns now₀ turn₀ now turn = turn ≤ turns
 
 abbrev μ-loop : tie.MeasureT-loop
-μ-loop turns now₀ found₀ turn₀ now found turn = turns - turn
+μ-loop turns now₀ turn₀ now turn = turns - turn
 
 loop-holds : tie.Need-loop-holds Inv-loop μ-loop
 loop-holds c = omega arith
@@ -24,8 +23,8 @@ element-write-now c = omega arith
 is-sound-requires : tie.Need-is-sound-requires Inv-loop μ-loop
 is-sound-requires c κs = search needs
 
-add-found : tie.Need-add-found Inv-loop μ-loop
-add-found c = omega arith
+returns : tie.Need-returns Inv-loop μ-loop
+returns c = search needs
 
 add-turn : tie.Need-add-turn Inv-loop μ-loop
 add-turn c = omega arith
@@ -34,10 +33,10 @@ loop-less : tie.Need-loop-less Inv-loop μ-loop
 loop-less c = omega arith
 
 loop-again : tie.Need-loop-again Inv-loop μ-loop
-loop-again c = ⊎-elim (λ w. omega arith) (λ w. omega arith) (c .if1 .came)
+loop-again c = omega arith
 
-returns : tie.Need-returns Inv-loop μ-loop
-returns c = search needs
+returns-2 : tie.Need-returns-2 Inv-loop μ-loop
+returns-2 c = search needs
 
 pub sound-turns-spec : {M : Type 1} → statement M
 sound-turns-spec =
@@ -49,8 +48,8 @@ sound-turns-spec =
     add-now
     element-write-now
     is-sound-requires
-    add-found
+    returns
     add-turn
     loop-less
     loop-again
-    returns)
+    returns-2)

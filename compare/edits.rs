@@ -1,0 +1,24 @@
+// Writes one module for each deliberate mistake: the model with one line wrong. edits MODEL MISTAKES > OUT
+use std::fs::read_to_string;
+
+fn main() {
+    let args: Vec<String> = std::env::args().collect();
+    let model = read_to_string(&args[1]).expect("the model");
+    let list = read_to_string(&args[2]).expect("the mistakes");
+    let mut lines = list.lines();
+    let mut names = Vec::new();
+    while let Some(line) = lines.next() {
+        let name = line.strip_prefix("# ").expect("a mistake's name");
+        let old = lines.next().and_then(|l| l.strip_prefix("old: ")).expect("old: and a part of a line");
+        let new = lines.next().and_then(|l| l.strip_prefix("new:")).expect("new: and what stands instead");
+        let new = new.strip_prefix(' ').unwrap_or(new);
+        assert_eq!(model.matches(old).count(), 1, "the model has this not once: {old}");
+        println!("#[allow(unused)]\nmod wrong{} {{\n{}}}\n", names.len(), model.replace(old, new));
+        names.push(name.to_string());
+    }
+    println!("pub fn all() -> Vec<(&'static str, Box<dyn crate::request::Side>)> {{\n    vec![");
+    for (i, name) in names.iter().enumerate() {
+        println!("        ({name:?}, Box::new(wrong{i}::Model::new())),");
+    }
+    println!("    ]\n}}");
+}

@@ -1,0 +1,369 @@
+// Document 01 in plain Rust, written from its words and not from bumpalo's code: the third voice of the comparison.
+// In its order: refusals, sizing and placing, the calls. mistakes.txt names lines of this file.
+use crate::request::{pattern, Answer, Block, Chunk, Request, Side, Token, NO_TOKEN};
+
+const FOOTER: usize = 48;
+const OVERHEAD: usize = 64;
+const DEFAULT: usize = 448;
+const PAGE: usize = 4096;
+const PLACES: usize = 32;
+const MOST: usize = 1 << 30;
+
+const SIZE: u32 = 3;
+const ALIGN: u32 = 4;
+const BLOCK: u32 = 5;
+const DIRECTION: u32 = 6;
+const TOKEN: u32 = 7;
+const ROOM: u32 = 8;
+
+type Offset = Result<usize, u32>;
+
+pub struct Model {
+    minimum: usize,
+    limit: Option<u64>,
+    // In the order taken; the last is current.
+    chunks: Vec<Chunk>,
+    region: Vec<u8>,
+}
+
+fn up(x: usize, to: usize) -> usize {
+    x.div_ceil(to) * to
+}
+
+fn down(x: usize, to: usize) -> usize {
+    x / to * to
+}
+
+fn end(c: &Chunk) -> usize {
+    c.start + c.size
+}
+
+fn allowed(size: usize, align: usize) -> Result<(), u32> {
+    if MOST < size {
+        return Err(SIZE);
+    }
+    if !(1..=4096).contains(&align) || align.count_ones() != 1 {
+        return Err(ALIGN);
+    }
+    Ok(())
+}
+
+// Sizing and placing
+
+fn usable(base: usize, size: usize, align: usize) -> usize {
+    let a = align.max(16);
+    let r = up(size, a);
+    let m = base.max(r);
+    if m < PAGE {
+        (m + OVERHEAD).next_power_of_two() - OVERHEAD
+    } else {
+        up(m + OVERHEAD, PAGE) - OVERHEAD
+    }
+}
+
+impl Model {
+    pub fn new() -> Model {
+        Model { minimum: 1, limit: None, chunks: Vec::new(), region: Vec::new() }
+    }
+
+    fn held_bytes(&self) -> usize {
+        self.chunks.iter().map(|c| c.size).sum()
+    }
+
+    fn is_clear(&self, start: usize, size: usize) -> bool {
+        self.chunks.iter().all(|c| start + size + FOOTER <= c.start || end(c) + FOOTER <= start)
+    }
+
+    // The multiple of a is looked for one by one: slow, and plainly the lowest.
+    fn place(&self, size: usize, a: usize) -> Option<usize> {
+        let last = self.region.len().checked_sub(size + FOOTER)?;
+        (0..=last).step_by(a).find(|&start| self.is_clear(start, size))
+    }
+
+    fn is_under_limit(&self, size: usize) -> bool {
+        let held = self.held_bytes() as u64;
+        match self.limit {
+            Some(limit) if held <= limit => size as u64 <= limit - held,
+            _ => true,
+        }
+    }
+
+    fn take(&mut self, base: usize, size: usize, align: usize) -> bool {
+        let n = usable(base, size, align);
+        if !self.is_under_limit(n) || self.chunks.len() == PLACES {
+            return false;
+        }
+        let Some(start) = self.place(n, align.max(16)) else {
+            return false;
+        };
+        self.chunks.push(Chunk { start, size: n, pointer: start + n });
+        true
+    }
+
+    fn is_tried(&self, base: usize, size: usize) -> bool {
+        let small = match self.limit {
+            Some(limit) => (size as u64) < limit && base >= size && limit < DEFAULT as u64 && self.held_bytes() == 0,
+            None => false,
+        };
+        base >= size.max(DEFAULT) || small
+    }
+
+    fn ladder(&mut self, size: usize, align: usize) -> bool {
+        let twice = 2 * self.chunks.last().map_or(0, |c| c.size);
+        let mut base = twice.max(size.max(DEFAULT));
+        while self.is_tried(base, size) {
+            if self.take(base, size, align) {
+                return true;
+            }
+            if base == 0 {
+                return false;
+            }
+            base /= 2;
+        }
+        false
+    }
+
+    // The calls
+
+    fn create(&mut self, minimum: usize, region: usize, capacity: usize, background: u8) -> Answer {
+        // A refused creation's record holds no chunk, minimum 1 and no limit; the lent bytes stay as they are.
+        *self = Model { region: (0..region).map(|i| pattern(background, i)).collect(), ..Model::new() };
+        if MOST < capacity {
+            return Answer::Refused(SIZE);
+        }
+        if ![1, 2, 4, 8, 16].contains(&minimum) {
+            return Answer::Refused(ALIGN);
+        }
+        if capacity > 0 && !self.take(DEFAULT, capacity, minimum) {
+            return Answer::Refused(ROOM);
+        }
+        self.minimum = minimum;
+        Answer::Done
+    }
+
+    fn from_current(&mut self, size: usize, align: usize) -> Option<usize> {
+        let minimum = self.minimum;
+        let c = self.chunks.last_mut()?;
+        let needed = up(size, align.max(minimum));
+        let top = down(c.pointer, align);
+        if top < c.start || top - c.start < needed {
+            return None;
+        }
+        c.pointer = top - needed;
+        Some(c.pointer)
+    }
+
+    fn allocate(&mut self, size: usize, align: usize) -> Offset {
+        allowed(size, align)?;
+        if let Some(offset) = self.from_current(size, align) {
+            return Ok(offset);
+        }
+        if !self.ladder(size, align) {
+            return Err(ROOM);
+        }
+        self.from_current(size, align).ok_or(ROOM)
+    }
+
+    fn is_at_pointer(&self, offset: usize) -> bool {
+        self.chunks.last().is_some_and(|c| c.pointer == offset)
+    }
+
+    fn set_pointer(&mut self, pointer: usize) {
+        self.chunks.last_mut().unwrap().pointer = pointer;
+    }
+
+    fn acceptable(&self, b: &Block) -> Result<(), u32> {
+        let inside = self.chunks.iter().any(|c| {
+            if b.size == 0 {
+                c.start <= b.offset && b.offset <= end(c)
+            } else {
+                c.pointer <= b.offset && b.offset + b.size <= end(c)
+            }
+        });
+        if b.offset % b.align == 0 && inside {
+            Ok(())
+        } else {
+            Err(BLOCK)
+        }
+    }
+
+    fn free(&mut self, b: &Block) -> Result<(), u32> {
+        allowed(b.size, b.align)?;
+        self.acceptable(b)?;
+        if self.is_at_pointer(b.offset) {
+            self.set_pointer(up(b.offset + b.size, self.minimum));
+        }
+        Ok(())
+    }
+
+    // Read whole first, then written.
+    fn carry(&mut self, from: usize, to: usize, size: usize) {
+        let bytes = self.region[from..from + size].to_vec();
+        self.region[to..to + size].copy_from_slice(&bytes);
+    }
+
+    // Sizes before alignments, since the lowest number is answered.
+    fn allowed_move(&self, b: &Block, size: usize, align: usize) -> Result<(), u32> {
+        allowed(b.size.max(size), 1)?;
+        allowed(0, b.align)?;
+        allowed(0, align)?;
+        self.acceptable(b)
+    }
+
+    fn grow(&mut self, b: &Block, size: usize, align: usize) -> Offset {
+        self.allowed_move(b, size, align)?;
+        if size < b.size {
+            return Err(DIRECTION);
+        }
+        let mut new = None;
+        if b.align >= align && self.is_at_pointer(b.offset) {
+            let extra = up(size, self.minimum) - b.size;
+            new = self.from_current(extra, b.align);
+        }
+        let new = match new {
+            Some(offset) => offset,
+            None => self.allocate(size, align)?,
+        };
+        self.carry(b.offset, new, b.size);
+        Ok(new)
+    }
+
+    fn grow_zeroed(&mut self, b: &Block, size: usize, align: usize) -> Offset {
+        let new = self.grow(b, size, align)?;
+        self.region[new + b.size..new + size].fill(0);
+        Ok(new)
+    }
+
+    fn shrink(&mut self, b: &Block, size: usize, align: usize) -> Offset {
+        self.allowed_move(b, size, align)?;
+        if b.size < size {
+            return Err(DIRECTION);
+        }
+        if b.align < align {
+            if b.offset % align == 0 {
+                return Ok(b.offset);
+            }
+            let new = self.allocate(size, align)?;
+            self.carry(b.offset, new, size);
+            return Ok(new);
+        }
+        let d = down(b.size - size, align.max(self.minimum));
+        if self.is_at_pointer(b.offset) && d >= (b.size + 1) / 2 {
+            self.set_pointer(b.offset + d);
+            self.carry(b.offset, b.offset + d, size);
+            return Ok(b.offset + d);
+        }
+        Ok(b.offset)
+    }
+
+    fn resize(&mut self, b: &Block, size: usize) -> Offset {
+        if b.size == 0 {
+            return self.allocate(size, b.align);
+        }
+        if size <= b.size {
+            self.shrink(b, size, b.align)
+        } else {
+            self.grow(b, size, b.align)
+        }
+    }
+
+    fn token(&self) -> Token {
+        Token { count: self.chunks.len(), pointer: self.chunks.last().map_or(0, |c| c.pointer) }
+    }
+
+    fn cancel(&mut self, offset: usize, t: Token) -> Result<(), u32> {
+        if t.count > self.chunks.len() {
+            return Err(TOKEN);
+        }
+        if !self.is_at_pointer(offset) {
+            return Ok(());
+        }
+        let c = *self.chunks.last().unwrap();
+        if t.count == self.chunks.len() {
+            if t.pointer < c.pointer || t.pointer > end(&c) || t.pointer % self.minimum != 0 {
+                return Err(TOKEN);
+            }
+            self.set_pointer(t.pointer);
+        } else {
+            self.set_pointer(end(&c));
+        }
+        Ok(())
+    }
+
+    fn reset(&mut self) {
+        if let Some(c) = self.chunks.pop() {
+            self.chunks = vec![Chunk { pointer: end(&c), ..c }];
+        }
+    }
+
+    fn copy_in(&mut self, size: usize, align: usize, byte: impl Fn(usize) -> u8) -> Offset {
+        let offset = self.allocate(size, align)?;
+        for i in 0..size {
+            self.region[offset + i] = byte(i);
+        }
+        Ok(offset)
+    }
+}
+
+fn at(offset: Offset) -> Answer {
+    offset.map_or_else(Answer::Refused, Answer::At)
+}
+
+fn done(call: Result<(), u32>) -> Answer {
+    call.map_or_else(Answer::Refused, |()| Answer::Done)
+}
+
+impl Side for Model {
+    fn ask(&mut self, request: &Request) -> (Answer, Token) {
+        use Request::*;
+        let token = self.token();
+        let answer = match *request {
+            Create { minimum, region, capacity, background } => self.create(minimum, region, capacity, background),
+            Allocate { size, align } => at(self.allocate(size, align)),
+            Free(b) => done(self.free(&b)),
+            Grow { block, size, align } => at(self.grow(&block, size, align)),
+            Shrink { block, size, align } => at(self.shrink(&block, size, align)),
+            Reset => {
+                self.reset();
+                Answer::Done
+            }
+            SetLimit(limit) => {
+                self.limit = Some(limit);
+                Answer::Done
+            }
+            NoLimit => {
+                self.limit = None;
+                Answer::Done
+            }
+            AllocateWithToken { size, align } => match self.allocate(size, align) {
+                Ok(offset) => return (Answer::At(offset), token),
+                Err(number) => Answer::Refused(number),
+            },
+            Cancel { offset, token } => done(self.cancel(offset, token)),
+            Resize { block, size } => at(self.resize(&block, size)),
+            GrowZeroed { block, size, align } => at(self.grow_zeroed(&block, size, align)),
+            CopyIn { size, align, pattern: p } => at(self.copy_in(size, align, |i| pattern(p, i))),
+            Fill { size, align, value } => at(self.copy_in(size, align, |_| value)),
+            Write { block, pattern: p } => {
+                for i in 0..block.size {
+                    self.region[block.offset + i] = pattern(p, i);
+                }
+                Answer::Done
+            }
+        };
+        (answer, NO_TOKEN)
+    }
+
+    fn chunks(&self, table: &mut Vec<Chunk>) {
+        table.clear();
+        table.extend_from_slice(&self.chunks);
+    }
+
+    fn held(&self) -> usize {
+        self.held_bytes()
+    }
+
+    fn bytes(&self) -> &[u8] {
+        &self.region
+    }
+}

@@ -1,0 +1,116 @@
+// The global allocator beneath bumpalo. While a call into bumpalo runs, and only then, a request is a chunk's: it is placed by document 01's
+// rule in one buffer, whose first byte is offset 0. Every other request goes to the system.
+use std::alloc::{GlobalAlloc, Layout, System};
+use std::cell::UnsafeCell;
+
+pub const REGION: usize = 65_536;
+pub const FOOTER: usize = 48;
+const PLACES: usize = 32;
+
+// As strict as the largest alignment, so that an offset has an alignment exactly when its address has.
+#[repr(C, align(4096))]
+struct Buffer([u8; REGION]);
+
+#[derive(Clone, Copy)]
+struct Taken {
+    start: usize,
+    // With the footer.
+    size: usize,
+    // What stood in the footer's place before it.
+    before: [u8; FOOTER],
+}
+
+struct State {
+    serving: bool,
+    region: usize,
+    count: usize,
+    taken: [Taken; PLACES],
+    buffer: Buffer,
+}
+
+pub struct Placing(UnsafeCell<State>);
+
+// The harness has one thread.
+unsafe impl Sync for Placing {}
+
+#[global_allocator]
+static PLACING: Placing = Placing(UnsafeCell::new(State {
+    serving: false,
+    region: 0,
+    count: 0,
+    taken: [Taken { start: 0, size: 0, before: [0; FOOTER] }; PLACES],
+    buffer: Buffer([0; REGION]),
+}));
+
+fn state() -> &'static mut State {
+    unsafe { &mut *PLACING.0.get() }
+}
+
+// The lowest multiple of align with size bytes inside the region that meet no held chunk.
+fn lowest(s: &State, size: usize, align: usize) -> Option<usize> {
+    let mut at = 0;
+    while at + size <= s.region {
+        match s.taken[..s.count].iter().find(|t| t.start < at + size && at < t.start + t.size) {
+            None => return Some(at),
+            Some(t) => at = (t.start + t.size).next_multiple_of(align),
+        }
+    }
+    None
+}
+
+unsafe impl GlobalAlloc for Placing {
+    unsafe fn alloc(&self, layout: Layout) -> *mut u8 {
+        let s = state();
+        if !s.serving {
+            return System.alloc(layout);
+        }
+        if s.count == PLACES {
+            return std::ptr::null_mut();
+        }
+        let Some(start) = lowest(s, layout.size(), layout.align()) else {
+            return std::ptr::null_mut();
+        };
+        let size = layout.size();
+        let mut before = [0; FOOTER];
+        before.copy_from_slice(&s.buffer.0[start + size - FOOTER..start + size]);
+        s.taken[s.count] = Taken { start, size, before };
+        s.count += 1;
+        s.buffer.0.as_mut_ptr().add(start)
+    }
+
+    // A chunk is known by its address. Its footer's place gets back what stood there, since ours never wrote in it.
+    unsafe fn dealloc(&self, ptr: *mut u8, layout: Layout) {
+        let s = state();
+        let offset = (ptr as usize).wrapping_sub(s.buffer.0.as_ptr() as usize);
+        if REGION <= offset {
+            return System.dealloc(ptr, layout);
+        }
+        let place = s.taken[..s.count].iter().position(|t| t.start == offset).expect("a held chunk");
+        let t = s.taken[place];
+        s.buffer.0[t.start + t.size - FOOTER..t.start + t.size].copy_from_slice(&t.before);
+        s.taken.copy_within(place + 1..s.count, place);
+        s.count -= 1;
+    }
+}
+
+// Runs a call into bumpalo. Nothing in it may allocate for itself.
+pub fn serving<T>(call: impl FnOnce() -> T) -> T {
+    state().serving = true;
+    let answer = call();
+    state().serving = false;
+    answer
+}
+
+pub fn lend(region: usize) {
+    assert!(region <= REGION && state().count == 0);
+    state().region = region;
+}
+
+pub fn region() -> &'static mut [u8] {
+    let s = state();
+    &mut s.buffer.0[..s.region]
+}
+
+pub fn base() -> *mut u8 {
+    state().buffer.0.as_mut_ptr()
+}

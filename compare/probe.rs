@@ -1,0 +1,56 @@
+/// Appended to a copy of bumpalo's lib.rs: reaches what is private there (the footers, `realloc`, the rewind guard).
+/// The lines above it are the crate's own.
+#[doc(hidden)]
+#[allow(missing_docs, missing_debug_implementations)]
+pub mod probe {
+    use super::*;
+
+    /// A chunk as the Rust holds it: its first address, usable size and bump pointer.
+    #[derive(Clone, Copy)]
+    pub struct Held {
+        pub data: usize,
+        pub usable: usize,
+        pub pointer: usize,
+    }
+
+    /// The held chunks, newest first.
+    pub fn chunks<const M: usize>(bump: &Bump<M>, mut each: impl FnMut(Held)) {
+        let mut footer = bump.current_chunk_footer.get();
+        unsafe {
+            while !footer.as_ref().is_empty() {
+                let f = footer.as_ref();
+                each(Held { data: f.data.as_ptr() as usize, usable: f.layout.size() - FOOTER_SIZE, pointer: f.ptr.get().as_ptr() as usize });
+                footer = f.prev.get();
+            }
+        }
+    }
+
+    pub unsafe fn realloc<const M: usize>(mut bump: &Bump<M>, ptr: NonNull<u8>, old: Layout, size: usize) -> Result<NonNull<u8>, AllocErr> {
+        alloc::Alloc::realloc(&mut bump, ptr, old, size)
+    }
+
+    /// What a rewind guard keeps, taken out of it so that other calls can come before its drop.
+    #[derive(Clone, Copy)]
+    pub struct Token {
+        ptr: NonNull<u8>,
+        footer: NonNull<ChunkFooter>,
+        footer_ptr: NonNull<u8>,
+    }
+
+    impl Token {
+        pub fn block(&self) -> NonNull<u8> {
+            self.ptr
+        }
+    }
+
+    pub fn allocate_with_token<const M: usize>(bump: &Bump<M>, layout: Layout) -> Result<Token, AllocErr> {
+        let guard = bump.try_alloc_layout_with_rewind(layout)?;
+        let token = Token { ptr: guard.ptr, footer: guard.rewind_footer, footer_ptr: guard.rewind_footer_ptr };
+        guard.finish();
+        Ok(token)
+    }
+
+    pub unsafe fn cancel<const M: usize>(bump: &Bump<M>, token: Token) {
+        drop(RewindGuard::new(bump, token.ptr, token.footer, token.footer_ptr))
+    }
+}

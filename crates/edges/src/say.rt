@@ -1,0 +1,107 @@
+// How a line is written.
+use arena::Answer;
+use arena::Arena;
+use arena::Refusal;
+use calls::Given;
+
+pub fn text(t: &[u8]) {
+    io::write_all(1, t);
+}
+
+pub fn number(before: &[u8], n: usize) {
+    text(before);
+    io::print_decimal(1, n as u64);
+}
+
+// A zero byte, which no text of this program has, is shown as 0.
+pub fn show_byte(b: u8) {
+    let one = [b];
+    if b == 0 {
+        text(b"0");
+    } else {
+        text(&one);
+    }
+}
+
+// Document 01's number of a refusal.
+fn refusal_number(r: Refusal) -> usize {
+    match r {
+        Refusal::State => 1,
+        Refusal::Region => 2,
+        Refusal::Size => 3,
+        Refusal::Align => 4,
+        Refusal::Block => 5,
+        Refusal::Direction => 6,
+        Refusal::Token => 7,
+        Refusal::Room => 8,
+    }
+}
+
+pub fn show_given(g: Given) {
+    match g {
+        Given::At(offset) => number(b": at ", offset),
+        Given::Refused(r) => number(b": refused ", refusal_number(r)),
+    }
+}
+
+pub fn show_answer(g: Answer) {
+    match g {
+        Answer::Done => text(b": done"),
+        Answer::Refused(r) => number(b": refused ", refusal_number(r)),
+    }
+}
+
+pub fn was_given(g: Given) -> bool {
+    match g {
+        Given::At(_) => true,
+        Given::Refused(_) => false,
+    }
+}
+
+pub fn was_done(g: Answer) -> bool {
+    match g {
+        Answer::Done => true,
+        Answer::Refused(_) => false,
+    }
+}
+
+fn show_chunk(start: usize, size: usize, pointer: usize) {
+    number(b", ", size);
+    number(b" at ", start);
+    number(b" pointer ", pointer);
+}
+
+// The whole record: its numbers, and the held chunks in the order taken.
+pub fn show_record(a: Arena) {
+    number(b"; region ", a.head.region);
+    number(b", minimum ", a.head.minimum);
+    if a.head.limited == 1 {
+        number(b", limit ", a.head.limit);
+    } else {
+        text(b", no limit");
+    }
+    if a.head.count == 0 {
+        text(b", no chunk");
+    }
+    for i in 0..32 {
+        if i < a.head.count {
+            show_chunk(a.starts[i], a.sizes[i], a.pointers[i]);
+        }
+    }
+    text(b"\n");
+}
+
+// How many chunks are held, and the current one's pointer.
+pub fn show_current(a: Arena) {
+    let count = a.head.count;
+    number(b"; chunks ", count);
+    if count == 0 {
+        text(b"\n");
+        return;
+    }
+    let last = count - 1;
+    if last < 32 {
+        number(b", pointer ", a.pointers[last]);
+    }
+    text(b"\n");
+}

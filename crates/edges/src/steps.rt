@@ -1,0 +1,256 @@
+// Each call of document 01 as a step: it prints what is asked, what was answered and what the arena is then, and gives the store after it.
+use crate::say::number;
+use crate::say::show_answer;
+use crate::say::show_given;
+use crate::say::show_record;
+use crate::say::text;
+use crate::say::was_done;
+use crate::say::was_given;
+use crate::store::Store;
+use crate::store::put_bytes;
+use crate::store::show_after;
+use arena::Arena;
+use arena::Outcome;
+use calls::Allocation;
+use calls::Token;
+
+// The region's bytes are full stops at first.
+pub fn create(region: usize, minimum: usize, capacity: usize) -> Store {
+    number(b"create ", region);
+    number(b" minimum ", minimum);
+    number(b" capacity ", capacity);
+    let got = Arena::with_min_align_and_capacity(region, minimum, capacity);
+    let answer = got.answer;
+    let a = got.arena;
+    show_answer(answer);
+    show_record(a);
+    Store {
+        arena: a,
+        lent: region,
+        bytes: [46; 16384],
+    }
+}
+
+fn given(s: Store, got: Allocation, bytes: [u8; 16384]) -> Store {
+    let answer = got.answer;
+    let a = got.arena;
+    let after = Store {
+        arena: a,
+        lent: s.lent,
+        bytes: bytes,
+    };
+    show_given(answer);
+    show_after(was_given(answer), s, after);
+    after
+}
+
+fn done(s: Store, got: Outcome) -> Store {
+    let answer = got.answer;
+    let a = got.arena;
+    let b = s.bytes;
+    let after = Store {
+        arena: a,
+        lent: s.lent,
+        bytes: b,
+    };
+    show_answer(answer);
+    show_after(was_done(answer), s, after);
+    after
+}
+
+pub fn allocate(s: Store, size: usize, align: usize) -> Store {
+    number(b"allocate ", size);
+    number(b" align ", align);
+    let a = s.arena;
+    let mut b = [46u8; 16384];
+    let n = put_bytes(&mut b, &s.bytes, s.lent);
+    let got = calls::allocate::allocate(a, &b[..n], size, align);
+    given(s, got, b)
+}
+
+pub fn copy_in(s: Store, source: &[u8], align: usize) -> Store {
+    text(b"copy in ");
+    text(source);
+    number(b" align ", align);
+    let a = s.arena;
+    let mut b = [46u8; 16384];
+    let n = put_bytes(&mut b, &s.bytes, s.lent);
+    let got = calls::write::copy_in(a, &mut b[..n], source, align);
+    given(s, got, b)
+}
+
+pub fn fill_in(s: Store, size: usize, align: usize, value: u8) -> Store {
+    number(b"fill ", size);
+    number(b" align ", align);
+    let a = s.arena;
+    let mut b = [46u8; 16384];
+    let n = put_bytes(&mut b, &s.bytes, s.lent);
+    let got = calls::write::fill_in(a, &mut b[..n], size, align, value);
+    given(s, got, b)
+}
+
+fn show_change(offset: usize, old: usize, old_align: usize, new: usize, new_align: usize) {
+    number(b" ", offset);
+    number(b" size ", old);
+    number(b" align ", old_align);
+    number(b" to size ", new);
+    number(b" align ", new_align);
+}
+
+pub fn grow(
+    s: Store,
+    offset: usize,
+    old: usize,
+    old_align: usize,
+    new: usize,
+    new_align: usize,
+) -> Store {
+    text(b"grow");
+    show_change(offset, old, old_align, new, new_align);
+    let a = s.arena;
+    let mut b = [46u8; 16384];
+    let n = put_bytes(&mut b, &s.bytes, s.lent);
+    let got = calls::grow::grow(a, &mut b[..n], offset, old, old_align, new, new_align);
+    given(s, got, b)
+}
+
+pub fn grow_zeroed(
+    s: Store,
+    offset: usize,
+    old: usize,
+    old_align: usize,
+    new: usize,
+    new_align: usize,
+) -> Store {
+    text(b"grow zeroed");
+    show_change(offset, old, old_align, new, new_align);
+    let a = s.arena;
+    let mut b = [46u8; 16384];
+    let n = put_bytes(&mut b, &s.bytes, s.lent);
+    let got = calls::grow::grow_zeroed(a, &mut b[..n], offset, old, old_align, new, new_align);
+    given(s, got, b)
+}
+
+pub fn shrink(
+    s: Store,
+    offset: usize,
+    old: usize,
+    old_align: usize,
+    new: usize,
+    new_align: usize,
+) -> Store {
+    text(b"shrink");
+    show_change(offset, old, old_align, new, new_align);
+    let a = s.arena;
+    let mut b = [46u8; 16384];
+    let n = put_bytes(&mut b, &s.bytes, s.lent);
+    let got = calls::shrink::shrink(a, &mut b[..n], offset, old, old_align, new, new_align);
+    given(s, got, b)
+}
+
+pub fn resize(s: Store, offset: usize, old: usize, align: usize, new: usize) -> Store {
+    number(b"resize ", offset);
+    number(b" size ", old);
+    number(b" align ", align);
+    number(b" to size ", new);
+    let a = s.arena;
+    let mut b = [46u8; 16384];
+    let n = put_bytes(&mut b, &s.bytes, s.lent);
+    let got = calls::resize::resize(a, &mut b[..n], offset, old, align, new);
+    given(s, got, b)
+}
+
+pub fn free(s: Store, offset: usize, size: usize, align: usize) -> Store {
+    number(b"free ", offset);
+    number(b" size ", size);
+    number(b" align ", align);
+    let a = s.arena;
+    done(s, calls::free::free(a, offset, size, align))
+}
+
+fn set_each(part: &mut [u8], value: u8) {
+    for i in 0..part.len() {
+        part[i] = value;
+    }
+}
+
+// What is lent is written on.
+pub fn lend(s: Store, offset: usize, size: usize, align: usize, value: u8) -> Store {
+    number(b"lend ", offset);
+    number(b" size ", size);
+    number(b" align ", align);
+    let a = s.arena;
+    let mut b = [46u8; 16384];
+    let n = put_bytes(&mut b, &s.bytes, s.lent);
+    let answer = calls::lend::lend_answer(a, &b[..n], offset, size, align);
+    let part = calls::lend::lend(a, &mut b[..n], offset, size, align);
+    let count = part.len();
+    set_each(part, value);
+    let after = Store {
+        arena: a,
+        lent: s.lent,
+        bytes: b,
+    };
+    show_answer(answer);
+    number(b", bytes lent ", count);
+    show_after(was_done(answer), s, after);
+    after
+}
+
+pub fn allocate_with_token(s: Store, size: usize, align: usize) -> Store {
+    number(b"token allocate ", size);
+    number(b" align ", align);
+    let a = s.arena;
+    let mut b = [46u8; 16384];
+    let n = put_bytes(&mut b, &s.bytes, s.lent);
+    let got = calls::tokens::allocate_with_token(a, &b[..n], size, align);
+    let token = got.token;
+    number(b" gives token ", token.count);
+    number(b" ", token.pointer);
+    let answer = got.answer;
+    let held = got.arena;
+    given(
+        s,
+        Allocation {
+            answer: answer,
+            arena: held,
+        },
+        b,
+    )
+}
+
+pub fn cancel(s: Store, offset: usize, count: usize, pointer: usize) -> Store {
+    number(b"cancel ", offset);
+    number(b" token ", count);
+    number(b" ", pointer);
+    let a = s.arena;
+    let token = Token {
+        count: count,
+        pointer: pointer,
+    };
+    done(s, calls::tokens::cancel(a, offset, token))
+}
+
+pub fn reset(s: Store) -> Store {
+    text(b"reset");
+    let a = s.arena;
+    done(s, a.reset())
+}
+
+pub fn limit(s: Store, limit: usize) -> Store {
+    number(b"limit ", limit);
+    let a = s.arena;
+    done(s, a.set_allocation_limit(limit))
+}
+
+pub fn no_limit(s: Store) -> Store {
+    text(b"no limit");
+    let a = s.arena;
+    done(s, a.no_allocation_limit())
+}
+
+pub fn record(s: Store) {
+    text(b"record");
+    let a = s.arena;
+    show_record(a);
+}

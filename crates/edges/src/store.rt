@@ -1,0 +1,158 @@
+// An arena's record with the bytes that are lent to it, and what is asked of both.
+ghost use mathlib.Core.Path.{_≡_};
+ghost use Prim.Native.Nat.{_≤_};
+ghost use lib.ListN.{length, take};
+use crate::say::number;
+use crate::say::show_byte;
+use crate::say::show_current;
+use crate::say::text;
+use arena::Arena;
+
+// The first lent bytes are the region.
+pub struct Store {
+    pub arena: Arena,
+    pub lent: usize,
+    pub bytes: [u8; 16384],
+}
+
+fn byte_at(from: &[u8; 16384], i: usize) -> u8 {
+    if i < 16384 { from[i] } else { 46 }
+}
+
+fn put_each<'a>(to: &'a mut [u8], from: &'a [u8; 16384])
+    ensures { λ r. ⌜ length (now (to .exit)) ≡ length (now (to .entry)) ⌝ }
+{
+    for i in 0..to.len() {
+        to[i] = byte_at(from, i);
+    }
+}
+
+// Puts a store's bytes into those that a call will be lent, and answers how many of them are lent: n, or all.
+pub fn put_bytes(to: &mut [u8], from: &[u8; 16384], n: usize) -> usize
+    ensures { λ r. ⌜ (r ≤ length (now (to .exit))) × (r ≡ length (take r (now (to .exit)))) ⌝ }
+{
+    put_each(to, from);
+    if to.len() < n { to.len() } else { n }
+}
+
+// The same record, lent another length.
+pub fn lent(s: Store, n: usize) -> Store {
+    let a = s.arena;
+    let b = s.bytes;
+    Store {
+        arena: a,
+        lent: n,
+        bytes: b,
+    }
+}
+
+// An unsound record: a chunk more than the table has places for.
+pub fn overcounted(s: Store) -> Store {
+    let mut a = s.arena;
+    let b = s.bytes;
+    a.head.count = 33;
+    Store {
+        arena: a,
+        lent: s.lent,
+        bytes: b,
+    }
+}
+
+// An unsound record: an unused place that isn't zero.
+pub fn littered(s: Store) -> Store {
+    let mut a = s.arena;
+    let b = s.bytes;
+    a.pointers[31] = 16;
+    Store {
+        arena: a,
+        lent: s.lent,
+        bytes: b,
+    }
+}
+
+fn same_column<'a>(x: &'a [usize; 32], y: &'a [usize; 32]) -> bool {
+    let mut same = true;
+    for i in 0..32 {
+        if x[i] != y[i] {
+            same = false;
+        }
+    }
+    same
+}
+
+fn same_bytes<'a>(x: &'a [u8; 16384], y: &'a [u8; 16384]) -> bool {
+    let mut same = true;
+    for i in 0..16384 {
+        if x[i] != y[i] {
+            same = false;
+        }
+    }
+    same
+}
+
+fn same_head(x: Arena, y: Arena) -> bool {
+    if x.head.region != y.head.region {
+        return false;
+    }
+    if x.head.minimum != y.head.minimum {
+        return false;
+    }
+    if x.head.limited != y.head.limited {
+        return false;
+    }
+    if x.head.limit != y.head.limit {
+        return false;
+    }
+    x.head.count == y.head.count
+}
+
+fn same_record(x: Arena, y: Arena) -> bool {
+    if !same_head(x, y) {
+        return false;
+    }
+    if !same_column(&x.starts, &y.starts) {
+        return false;
+    }
+    if !same_column(&x.sizes, &y.sizes) {
+        return false;
+    }
+    same_column(&x.pointers, &y.pointers)
+}
+
+// The record handed back is the one handed in, number by number, and so is each byte.
+fn same_store(x: Store, y: Store) -> bool {
+    let a = x.arena;
+    let b = y.arena;
+    if !same_record(a, b) {
+        return false;
+    }
+    let p = x.bytes;
+    let q = y.bytes;
+    same_bytes(&p, &q)
+}
+
+// The end of a line. A refused call must leave everything as it was.
+pub fn show_after(served: bool, before: Store, after: Store) {
+    if served {
+        let a = after.arena;
+        show_current(a);
+        return;
+    }
+    if same_store(before, after) {
+        text(b", unchanged\n");
+    } else {
+        text(b", CHANGED\n");
+    }
+}
+
+pub fn show_bytes(s: Store, from: usize, to: usize) {
+    number(b"bytes ", from);
+    number(b" to ", to);
+    text(b": ");
+    for i in from..to {
+        if i < 16384 {
+            show_byte(s.bytes[i]);
+        }
+    }
+    text(b"\n");
+}
