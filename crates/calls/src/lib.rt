@@ -1,7 +1,7 @@
 // The calls of document 01 by value: the record goes in, and comes back beside the answer.
 pub mod allocate;
 mod block;
-mod bytes;
+pub mod bytes;
 mod fast;
 pub mod free;
 pub mod grow;

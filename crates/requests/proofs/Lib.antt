@@ -1,0 +1,12 @@
+pub mod Computed
+pub mod Settling
+pub mod Feeding
+pub mod Heading
+pub mod Whole
+pub mod Codes
+pub mod Decimal
+pub mod Putting
+pub mod Running
+pub mod Keeping
+pub mod Lines
+pub mod Stepping

@@ -1,0 +1,151 @@
+-- `requests::window::run_window` meets its contract. The invariant: the bytes taken so far bring the machine to the record, the region and the
+-- number at hand, and to the text written; each turn takes one record more. Assumes nothing.
+use Prim.Native.Nat.{_+_, _-_, _≤_}
+use native.Mathlib.Nat.{le-of-eq}
+use native.Mathlib.Omega.{arith}
+use mathlib.Core.Path.{_≡_, refl, sym, ap, _∙_}
+use borrow.Author.Needs.{needs}
+use denote.Ref.{now}
+use lib.ListN.{length, drop, length-drop}
+use lib.Seq.{take-all}
+use Rattle.requests.specs.Front.{whole, frontOf}
+use Rattle.requests.specs.Inner.{requestSaid, frontSaid, replySaid, ranSaid}
+use Rattle.requests.proofs.Settling.{whole-size}
+use Rattle.requests.specs.Window.{memoryOf, Reached}
+use Rattle.requests.proofs.Stepping.{reached-start, reached-step}
+use Rattle.requests.proofs.window.run_window.Statement.{statement}
+use Rattle.requests.proofs.window.run_window.Tie as tie
+
+abbrev Inv-loop : tie.InvT-loop
+Inv-loop region₀ number window out₀ held₀ next₀ taken₀ written₀ region out held next taken written =
+    Reached number (memoryOf held₀ region₀) window held next taken written region out × (length region ≡ length region₀) × (length out ≡ length out₀)
+
+abbrev μ-loop : tie.MeasureT-loop
+μ-loop region₀ number window out₀ held₀ next₀ taken₀ written₀ region out held next taken written = length window - taken
+
+loop-holds : tie.Need-loop-holds Inv-loop μ-loop
+loop-holds c =
+    let s = c .before .before .before in
+    (reached-start (s .args .number) (s .args .arena) (now (s .args .region)) (now (s .args .window)) (now (s .args .out)) (s .pre .0 .0) (s .pre .0 .1), refl, refl)
+
+sub-loop : tie.Need-sub-loop Inv-loop μ-loop
+sub-loop c = search needs
+
+sub-read-front : tie.Need-sub-read-front Inv-loop μ-loop
+sub-read-front c = search needs
+
+part-read-front-start : tie.Need-part-read-front-start Inv-loop μ-loop
+part-read-front-start c = search needs
+
+part-read-front-end : tie.Need-part-read-front-end Inv-loop μ-loop
+part-read-front-end c = search needs
+
+read-front-requires : tie.Need-read-front-requires Inv-loop μ-loop
+read-front-requires c κs = search needs
+
+enum-known-size : tie.Need-enum-known-size Inv-loop μ-loop
+enum-known-size c = search needs
+
+run-requires : tie.Need-run-requires Inv-loop μ-loop
+run-requires c κs = let r = c .before .before .before .before .before .before .before .loop .inv .0 in (r .sound, r .region)
+
+put-line-requires : tie.Need-put-line-requires Inv-loop μ-loop
+put-line-requires c κs =
+    let t = c .before .before .before .before .before .before .before .before .before .before .before in
+    omega (arith, t .loop-test .taken, t .before .loop .inv .0 .fits)
+
+-- the record that was read at the front
+found : (c : tie.After-size Inv-loop μ-loop) →
+    let taken = c .before .before .before .before .before .loop .taken in
+    let window = now (c .before .before .before .before .before .before .before .before .before .args .window) in
+    frontOf (drop taken window) ≡ whole (c .size .given .0 .0) (requestSaid (c .size .given .0 .1 .0))
+unfolding frontSaid
+found c =
+    let taken = c .before .before .before .before .before .loop .taken in
+    let window = now (c .before .before .before .before .before .before .before .before .before .args .window) in
+    sym (ap frontOf (take-all (length window - taken) (drop taken window) (le-of-eq (length-drop taken window))))
+    ∙ sym (c .before .before .read-front .ensures)
+    ∙ ap frontSaid (c .size .given .1)
+
+-- it lies in the window
+record-inside : (c : tie.After-size Inv-loop μ-loop) →
+    let taken = c .before .before .before .before .before .loop .taken in
+    (2 ≤ c .size .given .0 .0) × (taken + c .size .given .0 .0 ≤ length (now (c .before .before .before .before .before .before .before .before .before .args .window)))
+record-inside c =
+    let taken = c .before .before .before .before .before .loop .taken in
+    let window = now (c .before .before .before .before .before .before .before .before .before .args .window) in
+    let w = whole-size (drop taken window) (found c) in
+    (w .0, omega (arith, length-drop taken window, c .before .before .before .before .before .loop .inv .0 .inside))
+
+add-taken : tie.Need-add-taken Inv-loop μ-loop
+add-taken c =
+    let i = record-inside (c .before .before .before .before .before .before .before .before .before .before) in
+    omega (arith, c .before .before .before .before .before .before .before .before .before .before .before .before .before .before .before .before .before .before .before .pre .1)
+
+add-next : tie.Need-add-next Inv-loop μ-loop
+add-next c =
+    let l = c .before .before .before .before .before .before .before .before .before .before .before .before .before .before .before in
+    let i = record-inside (c .before .before .before .before .before .before .before .before .before .before) in
+    omega (arith, l .before .before .before .before .pre .1, l .loop .inv .0 .counted)
+
+loop-less : tie.Need-loop-less Inv-loop μ-loop
+loop-less c = let i = record-inside (c .before .before .before .before .before .before .before .before .before .before) in omega arith
+
+loop-again : tie.Need-loop-again Inv-loop μ-loop
+loop-again c =
+    let l = c .before .before .before .before .before .before .before .before .before .before .before .before .before .before .before in
+    let s = c .before .before .before .before .before .before .before .before .before .before .before .before .before .before .before .before .before .before .before in
+    let z = c .before .before .before .before .before .before .before .before .before .before .size .given .0 in
+    let r = c .before .before .before .before .before .before .before .run in
+    let p = c .before .before .put-line in (
+      reached-step (s .args .number) (memoryOf (s .args .arena) (now (s .args .region))) (now (s .args .window)) (l .loop .held) (l .loop .next)
+          (l .loop .taken) (l .loop .written) (l .loop .region) (l .loop .out) (z .0) (requestSaid (z .1 .0)) (replySaid (r .result .reply)) (r .result .arena)
+          (r .last .1 .0) (p .last .0) (p .result) (l .loop .inv .0) (found (c .before .before .before .before .before .before .before .before .before .before)) (unfold ranSaid in r .ensures) (r .kept .1 .0)
+          (omega (arith, c .before .before .before .before .before .before .before .before .before .before .before .before .before .before .loop-test .taken, l .loop .inv .0 .fits)) (p .ensures),
+      r .kept .1 .0 ∙ l .loop .inv .1,
+      p .kept .0 ∙ l .loop .inv .2,
+    )
+
+same-length : tie.Need-same-length Inv-loop μ-loop
+same-length c = c .before .loop .inv .1
+
+same-length-2 : tie.Need-same-length-2 Inv-loop μ-loop
+same-length-2 c = c .before .loop .inv .2
+
+returns : tie.Need-returns Inv-loop μ-loop
+returns c = c .before .loop .inv .0
+
+same-length-3 : tie.Need-same-length-3 Inv-loop μ-loop
+same-length-3 c = c .before .before .before .before .loop .inv .1
+
+same-length-4 : tie.Need-same-length-4 Inv-loop μ-loop
+same-length-4 c = c .before .before .before .before .loop .inv .2
+
+returns-2 : tie.Need-returns-2 Inv-loop μ-loop
+returns-2 c = c .before .before .before .before .loop .inv .0
+
+pub run-window-spec : {M : Type 1} → statement M
+run-window-spec =
+    tie.close
+    (tie.spec
+    Inv-loop
+    μ-loop
+    loop-holds
+    sub-loop
+    sub-read-front
+    part-read-front-start
+    part-read-front-end
+    read-front-requires
+    enum-known-size
+    run-requires
+    put-line-requires
+    add-taken
+    add-next
+    loop-less
+    loop-again
+    same-length
+    same-length-2
+    returns
+    same-length-3
+    same-length-4
+    returns-2)

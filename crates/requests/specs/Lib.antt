@@ -1,0 +1,12 @@
+pub mod Bytes
+pub mod Request
+pub mod Front
+pub mod Header
+pub mod Parsed
+pub mod Run
+pub mod Text
+pub mod Replay
+pub mod Machine
+pub mod Examples
+pub mod Inner
+pub mod Window
