@@ -1,4 +1,5 @@
-// Running one request on a record that is known to be sound: no call tests it again.
+// Running one request on a record that is known to be sound. The calls that give out, move or end a block do not test it again; reset and the limit calls
+// still do.
 ghost use mathlib.Core.Path.{_≡_};
 ghost use mathlib.Core.Bool.{true};
 ghost use lib.ListN.{length};
