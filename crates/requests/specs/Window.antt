@@ -1,28 +1,63 @@
--- What running a window of the file comes to: the machine, fed the bytes that were taken.
-use Prim.Native.Nat.{ℕ, _+_, _≤_}
-use mathlib.Core.Bool.{true}
-use mathlib.Core.List.{List, []}
+-- What running a window of the file comes to. How much of it is run at once decides nothing of document 01: a law says that the machine, fed the bytes
+-- that were taken, comes to the same.
+use Prim.Native.Nat.{ℕ, zero, suc, _+_, _-_}
+use mathlib.Core.Bool.{cond}
+use mathlib.Core.List.{List, [], _++_}
 use mathlib.Core.Path.{_≡_}
-use lib.ListN.{length, take}
+use lib.ListN.{length, drop}
+use lib.Dec.{leb}
 use Rattle.arena.specs.declared.Arena.{Arena}
-use Rattle.arena.specs.Sound.{soundOf}
 use Rattle.requests.specs.declared.window.Progress.{Progress}
+use Rattle.requests.specs.Front.{Front, nothing, part, bad, whole, frontOf}
 use Rattle.requests.specs.Header.{Memory}
-use Rattle.requests.specs.Machine.{running, machine, fed}
+use Rattle.requests.specs.Run.{Ran, run}
+use Rattle.requests.specs.Text.{lineOf}
+use Rattle.requests.specs.Inner.{Put}
 
 abbrev pub memoryOf : Arena → List ℕ → Memory
 memoryOf a bytes = record { arena = a; bytes = bytes }
 
--- from request n on, the taken bytes of the window bring the machine to this record, these region bytes, this number and the written text
-pub record Reached (n : ℕ) (m : Memory) (window : List ℕ) (a : Arena) (number taken written : ℕ) (bytes out : List ℕ) : Type 0 where
-  pub comes : (lent : List ℕ) →
-      fed lent (machine running n m [] []) (take taken window) ≡ machine running number (memoryOf a bytes) [] (take written out)
-  pub sound : soundOf a ≡ true
-  pub region : length bytes ≡ a .head .region
-  pub inside : taken ≤ length window
-  pub fits : written ≤ length out
-  -- each request takes a byte at least
-  pub counted : number ≤ n + taken
+-- the next request's number and the memory, the bytes that were taken, and their lines
+pub record Passed : Type 0 where
+  pub number : ℕ
+  pub memory : Memory
+  pub taken : ℕ
+  pub text : List ℕ
 
-abbrev pub Through : ℕ → Memory → List ℕ → Progress → List ℕ → List ℕ → Type 0
-Through n m window p bytes out = Reached n m window (p .arena) (p .number) (p .taken) (p .written) bytes out
+abbrev pub passed : ℕ → Memory → ℕ → List ℕ → Passed
+passed number memory taken text = record { number = number; memory = memory; taken = taken; text = text }
+
+-- a record's bytes and its line, before what follows them
+abbrev pub ahead : ℕ → List ℕ → Passed → Passed
+ahead size line p = passed (p .number) (p .memory) (size + p .taken) (line ++ p .text)
+
+-- any line fits in this many bytes
+abbrev pub lineRoom : ℕ
+lineRoom = 64
+
+-- a whole record is run; on says what follows, from a number, a memory, the record's bytes and its line
+unfoldable pub passedBy : Front → ℕ → Memory → (ℕ → Memory → ℕ → List ℕ → Passed) → Passed
+passedBy nothing n m on = passed n m 0 []
+passedBy part n m on = passed n m 0 []
+passedBy bad n m on = passed n m 0 []
+passedBy (whole size r) n m on =
+    ahead size (lineOf n (run r m .reply)) (on (n + 1) (run r m .memory) size (lineOf n (run r m .reply)))
+
+-- while a whole, good record stands at the front and the output has room for a line; no more records than turns
+unfoldable pub passedWithin : ℕ → ℕ → ℕ → Memory → List ℕ → Passed
+passedWithin zero room n m window = passed n m 0 []
+passedWithin (suc turns) room n m window =
+    cond (leb lineRoom room)
+    (passedBy (frontOf window) n m (λ n' m' size line. passedWithin turns (room - length line) n' m' (drop size window)))
+    (passed n m 0 [])
+
+-- a record takes a byte at least, so there are turns enough
+unfoldable pub passedOf : ℕ → ℕ → Memory → List ℕ → Passed
+passedOf room n m window = passedWithin (length window) room n m window
+
+-- the code's progress, the region's bytes and the output say this
+pub record Through (p : Passed) (out₀ : List ℕ) (got : Progress) (bytes out : List ℕ) : Type 0 where
+  pub number : got .number ≡ p .number
+  pub memory : memoryOf (got .arena) bytes ≡ p .memory
+  pub taken : got .taken ≡ p .taken
+  pub put : Put out₀ 0 (p .text) out (got .written)

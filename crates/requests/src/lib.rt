@@ -41,3 +41,10 @@ pub enum Reply {
     Done,
     Refused(Refusal),
 }
+
+// Whether the header is still to come, requests are read, or a bad header or record has stopped the run.
+pub enum Stage {
+    Heading,
+    Running,
+    Stopped,
+}

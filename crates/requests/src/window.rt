@@ -4,7 +4,7 @@ ghost use mathlib.Core.Bool.{true};
 ghost use Prim.Native.Nat.{_+_, _<_, _^_};
 ghost use lib.ListN.{length};
 ghost use Rattle.arena.specs.Sound.{soundOf};
-ghost use Rattle.requests.specs.Window.{Through, memoryOf};
+ghost use Rattle.requests.specs.Window.{memoryOf, passedOf, Through};
 use crate::Front;
 use crate::print::put_line;
 use crate::read::read_front;
@@ -29,7 +29,7 @@ pub fn run_window(
 ) -> Progress
     requires { ⌜ (soundOf arena ≡ true) × (length (now region) ≡ arena .head .region) ⌝ }
     requires { ⌜ number + length (now window) < 2 ^ 64 ⌝ }
-    ensures { λ r. ⌜ Through number (memoryOf arena (now (region .entry))) (now (window .entry)) r (now (region .exit)) (now (out .exit)) ⌝ }
+    ensures { λ r. ⌜ Through (passedOf (length (now (out .entry))) number (memoryOf arena (now (region .entry))) (now (window .entry))) (now (out .entry)) r (now (region .exit)) (now (out .exit)) ⌝ }
 {
     let mut held = arena;
     let mut next = number;

@@ -3,22 +3,30 @@
 use Prim.Native.Nat.{_+_, _-_, _≤_}
 use native.Mathlib.Nat.{le-of-eq}
 use native.Mathlib.Omega.{arith}
+use mathlib.Core.Bool.{false}
+use mathlib.Core.List.{[], _∷_}
+use mathlib.Core.Logic.{inl, inr}
 use mathlib.Core.Path.{_≡_, refl, sym, ap, _∙_}
 use borrow.Author.Needs.{needs}
 use denote.Ref.{now}
 use lib.ListN.{length, drop, length-drop}
 use lib.Seq.{take-all}
+use types.Run.{OneOf}
+use denote.Enum.Declared.{tagOf}
+use Rattle.requests.proofs.Front.{the-type}
+use Rattle.requests.specs.declared.Front.{Front}
+use Rattle.requests.specs.declared.Front.the-variants.{Nothing, Part, Bad, Whole}
 use Rattle.requests.specs.Front.{whole, frontOf}
 use Rattle.requests.specs.Inner.{requestSaid, frontSaid, replySaid, ranSaid}
 use Rattle.requests.proofs.Settling.{whole-size}
-use Rattle.requests.specs.Window.{memoryOf, Reached}
-use Rattle.requests.proofs.Stepping.{reached-start, reached-step}
+use Rattle.requests.specs.Window.{memoryOf}
+use Rattle.requests.proofs.Stepping.{Reached, isWhole, stops-by-front, stops-by-room, reached-start, reached-step, reached-end}
 use Rattle.requests.proofs.window.run_window.Statement.{statement}
 use Rattle.requests.proofs.window.run_window.Tie as tie
 
 abbrev Inv-loop : tie.InvT-loop
 Inv-loop region₀ number window out₀ held₀ next₀ taken₀ written₀ region out held next taken written =
-    Reached number (memoryOf held₀ region₀) window held next taken written region out × (length region ≡ length region₀) × (length out ≡ length out₀)
+    Reached number (memoryOf held₀ region₀) window out₀ held next taken written region out × (length region ≡ length region₀)
 
 abbrev μ-loop : tie.MeasureT-loop
 μ-loop region₀ number window out₀ held₀ next₀ taken₀ written₀ region out held next taken written = length window - taken
@@ -26,7 +34,7 @@ abbrev μ-loop : tie.MeasureT-loop
 loop-holds : tie.Need-loop-holds Inv-loop μ-loop
 loop-holds c =
     let s = c .before .before .before in
-    (reached-start (s .args .number) (s .args .arena) (now (s .args .region)) (now (s .args .window)) (now (s .args .out)) (s .pre .0 .0) (s .pre .0 .1), refl, refl)
+    (reached-start (s .args .number) (s .args .arena) (now (s .args .region)) (now (s .args .window)) (now (s .args .out)) (s .pre .0 .0) (s .pre .0 .1), refl)
 
 sub-loop : tie.Need-sub-loop Inv-loop μ-loop
 sub-loop c = search needs
@@ -98,31 +106,52 @@ loop-again c =
     let z = c .before .before .before .before .before .before .before .before .before .before .size .given .0 in
     let r = c .before .before .before .before .before .before .before .run in
     let p = c .before .before .put-line in (
-      reached-step (s .args .number) (memoryOf (s .args .arena) (now (s .args .region))) (now (s .args .window)) (l .loop .held) (l .loop .next)
-          (l .loop .taken) (l .loop .written) (l .loop .region) (l .loop .out) (z .0) (requestSaid (z .1 .0)) (replySaid (r .result .reply)) (r .result .arena)
-          (r .last .1 .0) (p .last .0) (p .result) (l .loop .inv .0) (found (c .before .before .before .before .before .before .before .before .before .before)) (unfold ranSaid in r .ensures) (r .kept .1 .0)
+      reached-step (s .args .number) (memoryOf (s .args .arena) (now (s .args .region))) (now (s .args .window)) (now (s .args .out)) (l .loop .held) (l .loop .next)
+          (l .loop .taken) (l .loop .written) (l .loop .region) (l .loop .out) (l .loop .inv .0) (z .0) (requestSaid (z .1 .0)) (replySaid (r .result .reply)) (r .result .arena)
+          (r .last .1 .0) (p .last .0) (p .result) (found (c .before .before .before .before .before .before .before .before .before .before)) (unfold ranSaid in r .ensures) (r .kept .1 .0)
           (omega (arith, c .before .before .before .before .before .before .before .before .before .before .before .before .before .before .loop-test .taken, l .loop .inv .0 .fits)) (p .ensures),
       r .kept .1 .0 ∙ l .loop .inv .1,
-      p .kept .0 ∙ l .loop .inv .2,
     )
 
 same-length : tie.Need-same-length Inv-loop μ-loop
 same-length c = c .before .loop .inv .1
 
 same-length-2 : tie.Need-same-length-2 Inv-loop μ-loop
-same-length-2 c = c .before .loop .inv .2
+same-length-2 c = c .before .loop .inv .0 .same
 
+-- the output has no room for a line
 returns : tie.Need-returns Inv-loop μ-loop
-returns c = c .before .loop .inv .0
+returns c =
+    let s = c .before .before .before .before .before in
+    let l = c .before .loop in
+    reached-end (s .args .number) (memoryOf (s .args .arena) (now (s .args .region))) (now (s .args .window)) (now (s .args .out)) (l .held) (l .next)
+        (l .taken) (l .written) (l .region) (l .out) (l .inv .0)
+        (stops-by-room (l .inv .0 .turns) (length (now (s .args .out)) - l .written) (l .next) (memoryOf (l .held) (l .region)) (drop (l .taken) (now (s .args .window)))
+        (omega (arith, l .inv .0 .same, c .loop-test .left)))
 
 same-length-3 : tie.Need-same-length-3 Inv-loop μ-loop
 same-length-3 c = c .before .before .before .before .loop .inv .1
 
 same-length-4 : tie.Need-same-length-4 Inv-loop μ-loop
-same-length-4 c = c .before .before .before .before .loop .inv .2
+same-length-4 c = c .before .before .before .before .loop .inv .0 .same
+
+-- a front that is not opened is not whole
+not-whole : (f : Front) → OneOf (0 ∷ 1 ∷ 2 ∷ []) (tagOf the-type f) → isWhole (frontSaid f) ≡ false
+unfolding frontSaid
+not-whole Nothing k = refl
+not-whole Part k = refl
+not-whole Bad k = refl
+not-whole (Whole size r) k = elim k [ inl e ↦ absurd (omega arith) | inr l ↦ elim l [ inl e ↦ absurd (omega arith) | inr e ↦ absurd (omega arith) ] ]
 
 returns-2 : tie.Need-returns-2 Inv-loop μ-loop
-returns-2 c = c .before .before .before .before .loop .inv .0
+returns-2 c =
+    let s = c .before .before .before .before .before .before .before .before in
+    let l = c .before .before .before .before .loop in
+    let window = now (s .args .window) in
+    reached-end (s .args .number) (memoryOf (s .args .arena) (now (s .args .region))) window (now (s .args .out)) (l .held) (l .next)
+        (l .taken) (l .written) (l .region) (l .out) (l .inv .0)
+        (stops-by-front (l .inv .0 .turns) (length (now (s .args .out)) - l .written) (l .next) (memoryOf (l .held) (l .region)) (drop (l .taken) window)
+        (sym (ap isWhole (c .before .read-front .ensures ∙ ap frontOf (take-all (length window - l .taken) (drop (l .taken) window) (le-of-eq (length-drop (l .taken) window))))) ∙ not-whole _ (c .match .keys2)))
 
 pub run-window-spec : {M : Type 1} → statement M
 run-window-spec =
