@@ -1,17 +1,18 @@
 -- The header in pieces: its first six bytes settle it, whatever follows, and with fewer it is kept. Assumes nothing.
 use Prim.Native.Nat.{ℕ, _≤_, _<_}
 use native.Mathlib.Omega.{arith}
-use mathlib.Core.Bool.{Bool, true, false, cond}
+use mathlib.Core.Bool.{Bool, true, false, _&&_, cond}
 use mathlib.Core.List.{List, [], _∷_, _++_, append-assoc, append-nil}
 use mathlib.Core.Option.{none}
 use mathlib.Core.Path.{_≡_, refl}
-use lib.Dec.{ltb}
+use lib.Dec.{ltb, leb, eqb}
 use lib.ListN.{length, drop, length-append, List·getD-append}
 use lib.Seq.{drop-at}
 use borrow.Author.Tests.{le-leb, lt-leb, lt-ltb, le-ltb, ltb-true, ltb-false}
 use Rattle.rounding.specs.First.{only}
-use Rattle.requests.specs.Bytes.{number32}
-use Rattle.requests.specs.Header.{headerSize, goodHeader, headerOf, memoryFor}
+use Rattle.arena.specs.Sound.{allowedMinimum}
+use Rattle.requests.specs.Bytes.{byteAt, number32}
+use Rattle.requests.specs.Header.{headerSize, mostRegion, goodHeader, headerOf, memoryFor}
 use Rattle.requests.specs.Machine.{Machine, heading, machine, headed, headerFed, fedAt, fed}
 
 pub header-stays : (p q : List ℕ) → headerSize ≤ length p → headerOf (p ++ q) ≡ headerOf p
@@ -31,6 +32,13 @@ header-stays p q h =
 pub short-header : (p : List ℕ) → length p < headerSize → headerOf p ≡ none
 unfolding headerOf goodHeader only
 short-header p h = rw (lt-leb headerSize (length p) h)
+
+-- the header of six bytes or more, by its tests
+pub header-by : (p : List ℕ) {version minimum region : Bool} → headerSize ≤ length p → eqb (byteAt p 0) 1 ≡ version →
+    allowedMinimum (byteAt p 1) ≡ minimum → leb (number32 p 2) mostRegion ≡ region →
+    headerOf p ≡ only (version && (minimum && region)) (record { minimum = byteAt p 1; region = number32 p 2 })
+unfolding headerOf goodHeader
+header-by p h v m r = rw (le-leb headerSize (length p) h, v, m, r)
 
 -- what a run comes to that has read these bytes and no more
 unfoldable pub openedBy : List ℕ → List ℕ → Machine

@@ -16,6 +16,10 @@ use Rattle.requests.specs.declared.Reply.{Reply as Code·Reply}
 use Rattle.requests.specs.Run.{Reply, at-offset, done, refused, Ran, ran}
 use Rattle.requests.specs.declared.run.Ran.{Ran as Code·Ran}
 use Rattle.requests.specs.Front.{Front, nothing, part, bad, whole}
+use mathlib.Core.Option.{Option, none, some}
+use Rattle.requests.specs.declared.header.Header.{Header as Code·Header}
+use Rattle.requests.specs.declared.header.Header.the-variants.{Bad as Bad·header, Good}
+use Rattle.requests.specs.Header.{Header}
 
 -- the request that a value of the code's type says
 unfoldable pub requestSaid : Code·Request → Request
@@ -35,6 +39,11 @@ frontSaid Nothing = nothing
 frontSaid Part = part
 frontSaid Bad = bad
 frontSaid (Whole size r) = whole size (requestSaid r)
+
+-- the header that a value of the code's type says
+unfoldable pub headerSaid : Code·Header → Option Header
+headerSaid Bad·header = none
+headerSaid (Good minimum region) = some (record { minimum = minimum; region = region })
 
 -- the length that suits a code, and 0 for a code that is none
 unfoldable pub sizeBy : List Form → ℕ → ℕ

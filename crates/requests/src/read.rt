@@ -9,7 +9,7 @@ ghost use Rattle.requests.specs.Inner.{sizeBy, frontSaid};
 use crate::Front;
 use crate::Request;
 
-fn wide(byte: u8) -> usize
+pub fn wide(byte: u8) -> usize
     ensures { λ r. ⌜ (r ≡ byte) × (r < 256) ⌝ }
 {
     byte as usize
