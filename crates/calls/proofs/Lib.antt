@@ -9,6 +9,7 @@ pub mod Changing
 pub mod Freeing
 pub mod Giving
 pub mod Growing
+pub mod Keeping
 pub mod Kept
 pub mod Lending
 pub mod Moving

@@ -2,22 +2,20 @@
 use Prim.Native.Nat.{ℕ}
 use mathlib.Core.Bool.{true}
 use mathlib.Core.List.{List}
-use mathlib.Core.Option.{Option, none, some}
 use mathlib.Core.Path.{_≡_, refl}
 use lib.ListN.{length}
 use Rattle.arena.specs.declared.Arena.{Arena}
-use Rattle.arena.specs.declared.Refusal.{Refusal}
 use Rattle.arena.specs.Record.{holding}
-use Rattle.arena.specs.Refusals.{answered}
 use Rattle.arena.specs.Sound.{soundOf}
 use Rattle.arena.specs.Creation.{resetOf, setLimitOf, noLimitOf}
 use Rattle.arena.proofs.StaysSound.{reset-sound, set-limit-sound, no-limit-sound}
-use Rattle.calls.specs.Allocate.{Taken, given, allocateOf}
+use Rattle.calls.specs.Allocate.{allocateOf}
 use Rattle.calls.specs.Free.{freeOf}
 use Rattle.calls.specs.Grow.{growOf}
 use Rattle.calls.specs.Shrink.{shrinkOf}
 use Rattle.calls.specs.Token.{tokenOf, withTokenOf, cancelOf}
 use Rattle.calls.specs.Resize.{resizeOf}
+use Rattle.calls.proofs.Keeping.{given-region, answered-region}
 use Rattle.calls.proofs.StaysSound.{allocate-sound, with-token-sound, grow-sound, shrink-sound, resize-sound, free-sound, cancel-sound}
 use Rattle.requests.specs.Request.{Request, allocate, free, grow, shrink, reset, setLimit, noLimit, allocateWithToken, cancel, resize}
 use Rattle.requests.specs.Run.{runIn}
@@ -34,18 +32,6 @@ run-sound noLimit a bytes s = no-limit-sound a s
 run-sound (allocateWithToken size align) a bytes s = with-token-sound a s (length bytes) size align
 run-sound (cancel offset count pointer) a bytes s = cancel-sound a s offset (tokenOf count pointer)
 run-sound (resize offset old align new) a bytes s = resize-sound a s (length bytes) offset old align new
-
-given-region : (o : Option Refusal) (a : Arena) (taken : Option Taken) → given o a taken .arena .head .region ≡ a .head .region
-unfolding given holding
-given-region (some r) a taken = refl
-given-region none a none = refl
-given-region none a (some t) = refl
-
-answered-region : (o : Option Refusal) (a changed : Arena) → changed .head .region ≡ a .head .region →
-    answered o a changed .arena .head .region ≡ a .head .region
-unfolding answered
-answered-region (some r) a changed e = refl
-answered-region none a changed e = e
 
 pub run-region : (r : Request) (a : Arena) (bytes : List ℕ) → runIn r a bytes .memory .arena .head .region ≡ a .head .region
 unfolding runIn holding allocateOf freeOf growOf shrinkOf resetOf setLimitOf noLimitOf withTokenOf cancelOf resizeOf
