@@ -4,6 +4,9 @@
 // A turn hands its record on to the next, so that no turn can be left out, and the size comes from outside, so that no test of it can be. What needs a
 // block is given one in the same turn: its own cost is the turn's less that of the allocate alone. The current chunk has room for 110 turns of 24 bytes.
 ghost use Prim.Native.Nat.{_≤_, _<_};
+
+mod inner;
+
 use arena::Answer;
 use arena::Arena;
 use arena::Head;
@@ -214,10 +217,13 @@ fn reset_turns(a: Arena, region: &[u8], turns: usize, size: usize) -> usize {
     turns
 }
 
-// WHAT by its number.
+// WHAT by its number; with 10 added, by the inner forms.
 fn served(what: usize, a: Arena, region: &mut [u8], turns: usize, size: usize) -> usize
     requires { ⌜ (turns < 1000000000) × (size < 500000000) ⌝ }
 {
+    if 10 <= what {
+        return inner::served(what - 10, a, region, turns, size);
+    }
     match what {
         0 => sound_turns(a, turns),
         1 => allocate_turns(a, region, turns, size),

@@ -1,0 +1,62 @@
+-- `cost::inner::token_turns` meets its contract: it is safe, and no more turns are taken than were asked for. The record stays sound. Assumes nothing.
+use Prim.Native.Nat.{_≤_, _-_}
+use native.Mathlib.Omega.{arith}
+use mathlib.Core.Bool.{true}
+use mathlib.Core.Path.{_≡_, ap, _∙_}
+use borrow.Author.Needs.{needs}
+use Rattle.arena.specs.Sound.{soundOf}
+use Rattle.calls.proofs.StaysSound.{with-token-sound}
+use Rattle.cost.proofs.inner.token_turns.Statement.{statement}
+use Rattle.cost.proofs.inner.token_turns.Tie as tie
+
+abbrev Inv-loop : tie.InvT-loop
+Inv-loop turns size now₀ turn₀ now turn = (turn ≤ turns) × (soundOf now ≡ true)
+
+abbrev μ-loop : tie.MeasureT-loop
+μ-loop turns size now₀ turn₀ now turn = turns - turn
+
+loop-holds : tie.Need-loop-holds Inv-loop μ-loop
+loop-holds c = search needs
+
+allocate-with-token-sound-requires : tie.Need-allocate-with-token-sound-requires Inv-loop μ-loop
+allocate-with-token-sound-requires c κs = search needs
+
+enum-told : tie.Need-enum-told Inv-loop μ-loop
+enum-told c = search needs
+
+enum-told-2 : tie.Need-enum-told-2 Inv-loop μ-loop
+enum-told-2 c = search needs
+
+returns : tie.Need-returns Inv-loop μ-loop
+returns c = search needs
+
+add-turn : tie.Need-add-turn Inv-loop μ-loop
+add-turn c = omega arith
+
+loop-less : tie.Need-loop-less Inv-loop μ-loop
+loop-less c = omega arith
+
+loop-again : tie.Need-loop-again Inv-loop μ-loop
+loop-again c =
+    let r = c .before .before .before in
+    let l = r .before .before .loop in
+    (omega arith, ap (λ o. soundOf (o .arena)) (r .allocate-with-token-sound .ensures) ∙ with-token-sound (l .now) (l .inv .1) _ _ _)
+
+returns-2 : tie.Need-returns-2 Inv-loop μ-loop
+returns-2 c = search needs
+
+pub token-turns-spec : {M : Type 1} → statement M
+token-turns-spec =
+    tie.close
+    (tie.spec
+    Inv-loop
+    μ-loop
+    loop-holds
+    allocate-with-token-sound-requires
+    enum-told
+    enum-told-2
+    returns
+    add-turn
+    loop-less
+    loop-again
+    returns-2)

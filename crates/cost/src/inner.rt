@@ -1,0 +1,174 @@
+// The same turns by the inner forms, on a record that was found sound once.
+ghost use mathlib.Core.Path.{_≡_};
+ghost use mathlib.Core.Bool.{true};
+ghost use Prim.Native.Nat.{_<_};
+ghost use lib.ListN.{length};
+ghost use Rattle.arena.specs.Sound.{soundOf};
+use arena::Answer;
+use arena::Arena;
+use arena::reset::kept_by_reset;
+use arena::sound::is_sound;
+use calls::Given;
+use calls::allocate::allocate_sound;
+use calls::free::free_sound;
+use calls::grow::grow_sound;
+use calls::shrink::shrink_sound;
+use calls::tokens::allocate_with_token_sound;
+use calls::tokens::cancel_sound;
+
+fn allocate_turns(a: Arena, turns: usize, size: usize) -> usize
+    requires { ⌜ soundOf a ≡ true ⌝ }
+{
+    let mut now = a;
+    for turn in 0..turns {
+        let got = allocate_sound(now, size, 8);
+        let answer = got.answer;
+        let Given::At(_) = answer else {
+            return turn;
+        };
+        now = got.arena;
+    }
+    turns
+}
+
+fn free_turns(a: Arena, turns: usize, size: usize) -> usize
+    requires { ⌜ soundOf a ≡ true ⌝ }
+{
+    let mut now = a;
+    for turn in 0..turns {
+        let got = allocate_sound(now, size, 8);
+        let answer = got.answer;
+        let Given::At(at) = answer else {
+            return turn;
+        };
+        let after = free_sound(got.arena, at, size, 8);
+        let done = after.answer;
+        let Answer::Done = done else {
+            return turn;
+        };
+        now = after.arena;
+    }
+    turns
+}
+
+fn grow_turns(a: Arena, region: &mut [u8], turns: usize, size: usize) -> usize
+    requires { ⌜ (soundOf a ≡ true) × (length (now region) ≡ a .head .region) × (size < 500000000) ⌝ }
+{
+    let mut now = a;
+    for turn in 0..turns {
+        let got = allocate_sound(now, size, 8);
+        let answer = got.answer;
+        let Given::At(at) = answer else {
+            return turn;
+        };
+        let after = grow_sound(got.arena, region, at, size, 8, size + 16, 8);
+        let done = after.answer;
+        let Given::At(_) = done else {
+            return turn;
+        };
+        now = after.arena;
+    }
+    turns
+}
+
+fn shrink_turns(a: Arena, region: &mut [u8], turns: usize, size: usize) -> usize
+    requires { ⌜ (soundOf a ≡ true) × (length (now region) ≡ a .head .region) × (size < 500000000) ⌝ }
+{
+    let mut now = a;
+    for turn in 0..turns {
+        let got = allocate_sound(now, size + size, 8);
+        let answer = got.answer;
+        let Given::At(at) = answer else {
+            return turn;
+        };
+        let after = shrink_sound(got.arena, region, at, size + size, 8, size, 8);
+        let done = after.answer;
+        let Given::At(_) = done else {
+            return turn;
+        };
+        now = after.arena;
+    }
+    turns
+}
+
+fn token_turns(a: Arena, turns: usize, size: usize) -> usize
+    requires { ⌜ soundOf a ≡ true ⌝ }
+{
+    let mut now = a;
+    for turn in 0..turns {
+        let got = allocate_with_token_sound(now, size, 8);
+        let answer = got.answer;
+        let Given::At(_) = answer else {
+            return turn;
+        };
+        now = got.arena;
+    }
+    turns
+}
+
+fn cancel_turns(a: Arena, turns: usize, size: usize) -> usize
+    requires { ⌜ soundOf a ≡ true ⌝ }
+{
+    let mut now = a;
+    for turn in 0..turns {
+        let got = allocate_with_token_sound(now, size, 8);
+        let answer = got.answer;
+        let Given::At(at) = answer else {
+            return turn;
+        };
+        let after = cancel_sound(got.arena, at, got.token);
+        let done = after.answer;
+        let Answer::Done = done else {
+            return turn;
+        };
+        now = after.arena;
+    }
+    turns
+}
+
+fn reset_turns(a: Arena, turns: usize, size: usize) -> usize
+    requires { ⌜ soundOf a ≡ true ⌝ }
+{
+    let mut last = a;
+    for turn in 0..turns {
+        let got = allocate_sound(a, size, 8);
+        let answer = got.answer;
+        let Given::At(_) = answer else {
+            return turn;
+        };
+        last = kept_by_reset(got.arena);
+    }
+    if !is_sound(last.head, &last.starts, &last.sizes, &last.pointers) {
+        return 0;
+    }
+    turns
+}
+
+// WHAT by its number among the checked turns.
+fn turns_of(what: usize, a: Arena, region: &mut [u8], turns: usize, size: usize) -> usize
+    requires { ⌜ (soundOf a ≡ true) × (length (now region) ≡ a .head .region) × (size < 500000000) ⌝ }
+{
+    match what {
+        1 => allocate_turns(a, turns, size),
+        2 => free_turns(a, turns, size),
+        3 => grow_turns(a, region, turns, size),
+        4 => shrink_turns(a, region, turns, size),
+        5 => token_turns(a, turns, size),
+        6 => cancel_turns(a, turns, size),
+        7 => reset_turns(a, turns, size),
+        _ => 0,
+    }
+}
+
+// The one test of the record and its region.
+pub fn served(what: usize, a: Arena, region: &mut [u8], turns: usize, size: usize) -> usize
+    requires { ⌜ size < 500000000 ⌝ }
+{
+    if !is_sound(a.head, &a.starts, &a.sizes, &a.pointers) {
+        return 0;
+    }
+    if region.len() != a.head.region {
+        return 0;
+    }
+    turns_of(what, a, region, turns, size)
+}
