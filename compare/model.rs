@@ -38,14 +38,78 @@ fn end(c: &Chunk) -> usize {
     c.start + c.size
 }
 
-fn allowed(size: usize, align: usize) -> Result<(), u32> {
-    if MOST < size {
+// Refusals
+
+// Sizes before alignments, since the lowest number is answered.
+fn allowed(sizes: &[usize], aligns: &[usize]) -> Result<(), u32> {
+    if sizes.iter().any(|&size| MOST < size) {
         return Err(SIZE);
     }
-    if !(1..=4096).contains(&align) || align.count_ones() != 1 {
+    if aligns.iter().any(|&align| 4096 < align || align.count_ones() != 1) {
         return Err(ALIGN);
     }
     Ok(())
+}
+
+fn has(c: &Chunk, b: &Block) -> bool {
+    if b.size == 0 {
+        return c.start <= b.offset && b.offset <= end(c);
+    }
+    c.pointer <= b.offset && b.offset + b.size <= end(c)
+}
+
+fn acceptable(mut chunks: impl Iterator<Item = Chunk>, b: &Block) -> Result<(), u32> {
+    if b.offset % b.align == 0 && chunks.any(|c| has(&c, b)) {
+        Ok(())
+    } else {
+        Err(BLOCK)
+    }
+}
+
+fn acceptable_token(minimum: usize, mut chunks: impl Iterator<Item = Chunk>, offset: usize, t: Token) -> Result<(), u32> {
+    let current = chunks.next();
+    let count = chunks.count() + current.is_some() as usize;
+    let returns = |c: Chunk| c.pointer <= t.pointer && t.pointer <= end(&c) && t.pointer % minimum == 0;
+    if t.count > count || t.count == count && current.is_some_and(|c| c.pointer == offset && !returns(c)) {
+        return Err(TOKEN);
+    }
+    Ok(())
+}
+
+fn movable(chunks: impl Iterator<Item = Chunk>, b: &Block, size: usize, align: usize) -> Result<(), u32> {
+    allowed(&[b.size, size], &[b.align, align])?;
+    acceptable(chunks, b)
+}
+
+fn direction(is_right: bool) -> Result<(), u32> {
+    if is_right {
+        Ok(())
+    } else {
+        Err(DIRECTION)
+    }
+}
+
+// All that is tested before a request is followed, over the chunks, newest first. What is left is ROOM, which the calls find out. There is no
+// unsound record here and no other region than the record's.
+pub fn tested(minimum: usize, chunks: impl Iterator<Item = Chunk>, request: &Request) -> Result<(), u32> {
+    use Request::*;
+    match *request {
+        Allocate { size, align } | AllocateWithToken { size, align } => allowed(&[size], &[align]),
+        CopyIn { size, align, .. } | Fill { size, align, .. } => allowed(&[size], &[align]),
+        Free(b) => allowed(&[b.size], &[b.align]).and_then(|()| acceptable(chunks, &b)),
+        Grow { block: b, size, align } | GrowZeroed { block: b, size, align } => {
+            movable(chunks, &b, size, align)?;
+            direction(b.size <= size)
+        }
+        Shrink { block: b, size, align } => {
+            movable(chunks, &b, size, align)?;
+            direction(size <= b.size)
+        }
+        Resize { block: b, size } if b.size == 0 => allowed(&[size], &[b.align]),
+        Resize { block: b, size } => movable(chunks, &b, size, b.align),
+        Cancel { offset, token } => acceptable_token(minimum, chunks, offset, token),
+        Create { .. } | Reset | SetLimit(_) | NoLimit | Write { .. } => Ok(()),
+    }
 }
 
 // Sizing and placing
@@ -125,20 +189,18 @@ impl Model {
 
     // The calls
 
-    fn create(&mut self, minimum: usize, region: usize, capacity: usize, background: u8) -> Answer {
+    fn create(&mut self, minimum: usize, region: usize, capacity: usize, background: u8) -> Result<(), u32> {
         // A refused creation's record holds no chunk, minimum 1 and no limit; the lent bytes stay as they are.
         *self = Model { region: (0..region).map(|i| pattern(background, i)).collect(), ..Model::new() };
-        if MOST < capacity {
-            return Answer::Refused(SIZE);
-        }
+        allowed(&[capacity], &[])?;
         if ![1, 2, 4, 8, 16].contains(&minimum) {
-            return Answer::Refused(ALIGN);
+            return Err(ALIGN);
         }
         if capacity > 0 && !self.take(DEFAULT, capacity, minimum) {
-            return Answer::Refused(ROOM);
+            return Err(ROOM);
         }
         self.minimum = minimum;
-        Answer::Done
+        Ok(())
     }
 
     fn from_current(&mut self, size: usize, align: usize) -> Option<usize> {
@@ -154,7 +216,6 @@ impl Model {
     }
 
     fn allocate(&mut self, size: usize, align: usize) -> Offset {
-        allowed(size, align)?;
         if let Some(offset) = self.from_current(size, align) {
             return Ok(offset);
         }
@@ -172,28 +233,10 @@ impl Model {
         self.chunks.last_mut().unwrap().pointer = pointer;
     }
 
-    fn acceptable(&self, b: &Block) -> Result<(), u32> {
-        let inside = self.chunks.iter().any(|c| {
-            if b.size == 0 {
-                c.start <= b.offset && b.offset <= end(c)
-            } else {
-                c.pointer <= b.offset && b.offset + b.size <= end(c)
-            }
-        });
-        if b.offset % b.align == 0 && inside {
-            Ok(())
-        } else {
-            Err(BLOCK)
-        }
-    }
-
-    fn free(&mut self, b: &Block) -> Result<(), u32> {
-        allowed(b.size, b.align)?;
-        self.acceptable(b)?;
+    fn free(&mut self, b: &Block) {
         if self.is_at_pointer(b.offset) {
             self.set_pointer(up(b.offset + b.size, self.minimum));
         }
-        Ok(())
     }
 
     // Read whole first, then written.
@@ -202,19 +245,7 @@ impl Model {
         self.region[to..to + size].copy_from_slice(&bytes);
     }
 
-    // Sizes before alignments, since the lowest number is answered.
-    fn allowed_move(&self, b: &Block, size: usize, align: usize) -> Result<(), u32> {
-        allowed(b.size.max(size), 1)?;
-        allowed(0, b.align)?;
-        allowed(0, align)?;
-        self.acceptable(b)
-    }
-
     fn grow(&mut self, b: &Block, size: usize, align: usize) -> Offset {
-        self.allowed_move(b, size, align)?;
-        if size < b.size {
-            return Err(DIRECTION);
-        }
         let mut new = None;
         if b.align >= align && self.is_at_pointer(b.offset) {
             let extra = up(size, self.minimum) - b.size;
@@ -235,10 +266,6 @@ impl Model {
     }
 
     fn shrink(&mut self, b: &Block, size: usize, align: usize) -> Offset {
-        self.allowed_move(b, size, align)?;
-        if b.size < size {
-            return Err(DIRECTION);
-        }
         if b.align < align {
             if b.offset % align == 0 {
                 return Ok(b.offset);
@@ -271,23 +298,16 @@ impl Model {
         Token { count: self.chunks.len(), pointer: self.chunks.last().map_or(0, |c| c.pointer) }
     }
 
-    fn cancel(&mut self, offset: usize, t: Token) -> Result<(), u32> {
-        if t.count > self.chunks.len() {
-            return Err(TOKEN);
-        }
+    fn cancel(&mut self, offset: usize, t: Token) {
         if !self.is_at_pointer(offset) {
-            return Ok(());
+            return;
         }
         let c = *self.chunks.last().unwrap();
         if t.count == self.chunks.len() {
-            if t.pointer < c.pointer || t.pointer > end(&c) || t.pointer % self.minimum != 0 {
-                return Err(TOKEN);
-            }
             self.set_pointer(t.pointer);
         } else {
             self.set_pointer(end(&c));
         }
-        Ok(())
     }
 
     fn reset(&mut self) {
@@ -296,12 +316,38 @@ impl Model {
         }
     }
 
-    fn copy_in(&mut self, size: usize, align: usize, byte: impl Fn(usize) -> u8) -> Offset {
-        let offset = self.allocate(size, align)?;
+    fn write(&mut self, offset: usize, size: usize, byte: impl Fn(usize) -> u8) {
         for i in 0..size {
             self.region[offset + i] = byte(i);
         }
+    }
+
+    fn copy_in(&mut self, size: usize, align: usize, byte: impl Fn(usize) -> u8) -> Offset {
+        let offset = self.allocate(size, align)?;
+        self.write(offset, size, byte);
         Ok(offset)
+    }
+
+    // A request that passed the tests.
+    fn follow(&mut self, request: &Request) -> Answer {
+        use Request::*;
+        match *request {
+            Create { minimum, region, capacity, background } => self.create(minimum, region, capacity, background).map_or_else(Answer::Refused, done),
+            Allocate { size, align } | AllocateWithToken { size, align } => at(self.allocate(size, align)),
+            Free(b) => done(self.free(&b)),
+            Grow { block, size, align } => at(self.grow(&block, size, align)),
+            Shrink { block, size, align } => at(self.shrink(&block, size, align)),
+            Reset => done(self.reset()),
+            SetLimit(limit) => done(self.limit = Some(limit)),
+            NoLimit => done(self.limit = None),
+            Cancel { offset, token } => done(self.cancel(offset, token)),
+            Resize { block, size } => at(self.resize(&block, size)),
+            GrowZeroed { block, size, align } => at(self.grow_zeroed(&block, size, align)),
+            CopyIn { size, align, pattern: p } => at(self.copy_in(size, align, |i| pattern(p, i))),
+            Fill { size, align, value } => at(self.copy_in(size, align, |_| value)),
+            // The owner is lent exactly the block's bytes.
+            Write { block, pattern: p } => done(self.write(block.offset, block.size, |i| pattern(p, i))),
+        }
     }
 }
 
@@ -309,49 +355,20 @@ fn at(offset: Offset) -> Answer {
     offset.map_or_else(Answer::Refused, Answer::At)
 }
 
-fn done(call: Result<(), u32>) -> Answer {
-    call.map_or_else(Answer::Refused, |()| Answer::Done)
+fn done(_: ()) -> Answer {
+    Answer::Done
 }
 
 impl Side for Model {
     fn ask(&mut self, request: &Request) -> (Answer, Token) {
-        use Request::*;
         let token = self.token();
-        let answer = match *request {
-            Create { minimum, region, capacity, background } => self.create(minimum, region, capacity, background),
-            Allocate { size, align } => at(self.allocate(size, align)),
-            Free(b) => done(self.free(&b)),
-            Grow { block, size, align } => at(self.grow(&block, size, align)),
-            Shrink { block, size, align } => at(self.shrink(&block, size, align)),
-            Reset => {
-                self.reset();
-                Answer::Done
-            }
-            SetLimit(limit) => {
-                self.limit = Some(limit);
-                Answer::Done
-            }
-            NoLimit => {
-                self.limit = None;
-                Answer::Done
-            }
-            AllocateWithToken { size, align } => match self.allocate(size, align) {
-                Ok(offset) => return (Answer::At(offset), token),
-                Err(number) => Answer::Refused(number),
-            },
-            Cancel { offset, token } => done(self.cancel(offset, token)),
-            Resize { block, size } => at(self.resize(&block, size)),
-            GrowZeroed { block, size, align } => at(self.grow_zeroed(&block, size, align)),
-            CopyIn { size, align, pattern: p } => at(self.copy_in(size, align, |i| pattern(p, i))),
-            Fill { size, align, value } => at(self.copy_in(size, align, |_| value)),
-            Write { block, pattern: p } => {
-                for i in 0..block.size {
-                    self.region[block.offset + i] = pattern(p, i);
-                }
-                Answer::Done
-            }
-        };
-        (answer, NO_TOKEN)
+        if let Err(number) = tested(self.minimum, self.chunks.iter().rev().copied(), request) {
+            return (Answer::Refused(number), NO_TOKEN);
+        }
+        match (request, self.follow(request)) {
+            (Request::AllocateWithToken { .. }, Answer::At(offset)) => (Answer::At(offset), token),
+            (_, answer) => (answer, NO_TOKEN),
+        }
     }
 
     fn chunks(&self, table: &mut Vec<Chunk>) {

@@ -14,14 +14,22 @@ pub mod probe {
     }
 
     /// The held chunks, newest first.
-    pub fn chunks<const M: usize>(bump: &Bump<M>, mut each: impl FnMut(Held)) {
-        let mut footer = bump.current_chunk_footer.get();
-        unsafe {
-            while !footer.as_ref().is_empty() {
-                let f = footer.as_ref();
-                each(Held { data: f.data.as_ptr() as usize, usable: f.layout.size() - FOOTER_SIZE, pointer: f.ptr.get().as_ptr() as usize });
-                footer = f.prev.get();
+    pub struct Chunks(NonNull<ChunkFooter>);
+
+    pub fn chunks<const M: usize>(bump: &Bump<M>) -> Chunks {
+        Chunks(bump.current_chunk_footer.get())
+    }
+
+    impl Iterator for Chunks {
+        type Item = Held;
+
+        fn next(&mut self) -> Option<Held> {
+            let f = unsafe { self.0.as_ref() };
+            if f.is_empty() {
+                return None;
             }
+            self.0 = f.prev.get();
+            Some(Held { data: f.data.as_ptr() as usize, usable: f.layout.size() - FOOTER_SIZE, pointer: f.ptr.get().as_ptr() as usize })
         }
     }
 

@@ -120,15 +120,14 @@ impl Real {
         }
     }
 
-    fn current(&self) -> Token {
-        let mut token = NO_TOKEN;
-        each!(&self.bump, b => probe::chunks(b, |c| {
-            if token.count == 0 {
-                token.pointer = c.pointer - placing::base() as usize;
-            }
-            token.count += 1;
-        }), ());
-        token
+    pub fn newest_first(&self) -> impl Iterator<Item = Chunk> {
+        let base = placing::base() as usize;
+        let held = each!(&self.bump, b => Some(probe::chunks(b)), None);
+        held.into_iter().flatten().map(move |c| Chunk { start: c.data - base, size: c.usable, pointer: c.pointer - base })
+    }
+
+    fn token(&self) -> Token {
+        Token { count: self.newest_first().count(), pointer: self.newest_first().next().map_or(0, |c| c.pointer) }
     }
 
     // The Rust's own walk gives each chunk's bytes from pointer to end, newest first.
@@ -142,7 +141,6 @@ impl Real {
 impl Side for Real {
     fn ask(&mut self, request: &Request) -> (Answer, Token) {
         use Request::*;
-        let before = self.current();
         let answer = match *request {
             Create { minimum, region, capacity, background } => self.create(minimum, region, capacity, background),
             Allocate { size, align } => {
@@ -182,6 +180,7 @@ impl Side for Real {
                 Answer::Done
             }
             AllocateWithToken { size, align } => {
+                let before = self.token();
                 let l = layout(size, align);
                 let got = each!(&self.bump, b => serving(|| probe::allocate_with_token(b, l)), unreachable!());
                 if let Ok(t) = got {
@@ -209,8 +208,7 @@ impl Side for Real {
 
     fn chunks(&self, table: &mut Vec<Chunk>) {
         table.clear();
-        let base = placing::base() as usize;
-        each!(&self.bump, b => probe::chunks(b, |c| table.push(Chunk { start: c.data - base, size: c.usable, pointer: c.pointer - base })), ());
+        table.extend(self.newest_first());
         table.reverse();
     }
 
