@@ -1,5 +1,6 @@
-// Writes one module for each deliberate mistake: the model with one line wrong. edits MODEL MISTAKES > OUT
-use std::fs::read_to_string;
+// Writes one module for each deliberate mistake: the model with one line wrong. edits MODEL MISTAKES FOLDER > OUT
+// FOLDER has the must-fail edits of our calls; each must be among the mistakes, by its file's name.
+use std::fs::{read_dir, read_to_string};
 
 fn main() {
     let args: Vec<String> = std::env::args().collect();
@@ -15,6 +16,11 @@ fn main() {
         assert_eq!(model.matches(old).count(), 1, "the model has this not once: {old}");
         println!("#[allow(unused)]\nmod wrong{} {{\n{}}}\n", names.len(), model.replace(old, new));
         names.push(name.to_string());
+    }
+    for edit in read_dir(&args[3]).expect("the must-fail edits") {
+        let path = edit.expect("an edit").path();
+        let name = path.file_stem().unwrap().to_str().unwrap();
+        assert!(names.iter().any(|n| n == name), "no mistake is named for the edit {name}");
     }
     println!("pub fn all() -> Vec<(&'static str, Box<dyn crate::request::Side>)> {{\n    vec![");
     for (i, name) in names.iter().enumerate() {

@@ -1,39 +1,78 @@
-// Plays random sequences to the Rust and to each wrong model until they disagree, and says how many requests that took.
+// Plays requests to each wrong model until it disagrees, and says how many that took: legal sequences beside the Rust, and where these don't show the
+// mistake, requests that need not be legal beside the right model.
 #![allow(dead_code)]
+mod model;
+mod ours;
 mod placing;
 mod play;
 mod real;
 mod request;
 mod sequence;
+mod wild;
 // The model with one mistake each; `run mistakes` makes them.
 mod wrong {
     include!(env!("WRONG"));
 }
 
+use model::Model;
 use play::Player;
+use request::{Request, Side};
 use sequence::Random;
 use std::panic::{catch_unwind, set_hook, AssertUnwindSafe};
 
 const SEED: u64 = 1;
-const MOST: u64 = 2_000_000;
+const MOST: u64 = 200_000;
+
+// A wrong model may also stop by a panic, which counts as seen.
+fn is_seen(agree: impl FnOnce() -> bool) -> bool {
+    !catch_unwind(AssertUnwindSafe(agree)).unwrap_or(false)
+}
+
+fn by_legal(wrong: &mut dyn Side) -> Option<u64> {
+    let mut player = Player::new();
+    let mut random = Random(SEED);
+    while player.requests < MOST {
+        let sequence = sequence::random(&mut random);
+        if is_seen(|| player.play(&sequence, wrong, None).is_ok()) {
+            return Some(player.requests);
+        }
+    }
+    None
+}
+
+fn agree(right: &mut Model, wrong: &mut dyn Side, request: &Request) -> bool {
+    let (mut table, mut theirs) = (Vec::new(), Vec::new());
+    let same = right.ask(request) == wrong.ask(request);
+    right.chunks(&mut table);
+    wrong.chunks(&mut theirs);
+    same && table == theirs && right.held() == wrong.held() && right.bytes() == wrong.bytes()
+}
+
+fn by_wild(wrong: &mut dyn Side) -> Option<u64> {
+    let mut random = Random(SEED);
+    let mut right = Model::new();
+    let mut asked = 0;
+    while asked < MOST {
+        for request in wild::requests(&mut random) {
+            asked += 1;
+            if is_seen(|| agree(&mut right, wrong, &request)) {
+                return Some(asked);
+            }
+        }
+    }
+    None
+}
 
 fn main() {
-    // A wrong model may also stop by a panic, which counts as seen.
     set_hook(Box::new(|_| {}));
     let mistakes = wrong::all();
     let (all, mut unseen) = (mistakes.len(), 0);
     for (name, mut wrong) in mistakes {
-        let mut player = Player::new();
-        let mut random = Random(SEED);
-        let mut seen = false;
-        while !seen && player.requests < MOST {
-            let sequence = sequence::random(&mut random);
-            let agree = catch_unwind(AssertUnwindSafe(|| player.play(&sequence, wrong.as_mut(), None).is_ok()));
-            seen = !agree.unwrap_or(false);
-        }
-        unseen += !seen as u32;
-        let after = if seen { player.requests.to_string() } else { "NOT SEEN".to_string() };
-        println!("{after:>9}  {name}");
+        let legal = by_legal(wrong.as_mut()).map(|n| (n, "legal"));
+        let seen = legal.or_else(|| by_wild(wrong.as_mut()).map(|n| (n, "wild")));
+        unseen += seen.is_none() as u32;
+        let (after, kind) = seen.map_or(("NOT SEEN".to_string(), ""), |(n, kind)| (n.to_string(), kind));
+        println!("{after:>9} {kind:<5}  {name}");
     }
     println!("seed {SEED}: of {all} mistakes {unseen} were not seen");
     std::process::exit((unseen > 0) as i32);

@@ -107,7 +107,7 @@ impl Maker<'_> {
     }
 }
 
-fn requests(random: &mut Random) -> Vec<Request> {
+pub fn requests(random: &mut Random) -> Vec<Request> {
     let mut model = Model::new();
     let region = if random.one_in(2) { random.of(&REGIONS) } else { random.below(4096) };
     let minimum = if random.one_in(20) { random.below(40) } else { random.of(&MINIMUMS) };
