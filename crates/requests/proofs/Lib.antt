@@ -10,3 +10,5 @@ pub mod Running
 pub mod Keeping
 pub mod Lines
 pub mod Stepping
+pub mod Windows
+pub mod Feeds

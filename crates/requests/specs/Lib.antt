@@ -10,3 +10,4 @@ pub mod Machine
 pub mod Examples
 pub mod Inner
 pub mod Window
+pub mod Feed

@@ -1,5 +1,6 @@
 // Document 01's request file: its records read and run, and the lines that they print.
 pub mod header;
+pub mod machine;
 pub mod print;
 pub mod read;
 pub mod run;

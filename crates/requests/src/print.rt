@@ -66,6 +66,15 @@ pub fn put_line(out: &mut [u8], at: usize, number: usize, reply: Reply) -> usize
     }
 }
 
+// A number and a text.
+pub fn put_numbered(out: &mut [u8], at: usize, number: usize, text: &[u8]) -> usize
+    requires { ⌜ at + 20 + length (now text) ≤ length (now out) ⌝ }
+    ensures { λ r. ⌜ Put (now (out .entry)) at (decimal number ++ now (text .entry)) (now (out .exit)) r ⌝ }
+{
+    let next = put_number(out, at, number);
+    put_text(out, next, text)
+}
+
 // The last line, which takes 57 bytes at most.
 pub fn put_held(out: &mut [u8], at: usize, bytes: usize, chunks: usize) -> usize
     requires { ⌜ at + 64 ≤ length (now out) ⌝ }

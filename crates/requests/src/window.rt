@@ -11,6 +11,9 @@ use crate::read::read_front;
 use crate::run::run;
 use arena::Arena;
 
+// Any line fits in this many bytes.
+pub const LINE: usize = 64;
+
 // The record and the next request's number, how many bytes of the window were taken, and how many of the output are written.
 pub struct Progress {
     pub arena: Arena,
@@ -35,7 +38,7 @@ pub fn run_window(
     let mut next = number;
     let mut taken = 0;
     let mut written = 0;
-    while 64 <= out.len() - written {
+    while LINE <= out.len() - written {
         let Front::Whole(size, request) = read_front(&window[taken..]) else {
             break;
         };

@@ -65,8 +65,8 @@ returns-4 c =
     let e = c .before .before .before .before .before .before in
     let bytes = now (e .before .before .before .before .args .bytes) in
     sym (
-      header-by bytes (e .before .before .if1 .left) (version-said e) (minimum-said (c .before .before .before) ∙ not-false _ (c .before .before .if3 .left))
-          (lt-leb (number32 bytes 2) mostRegion (omega (arith, region-said (c .before), c .if4 .taken)))
+    header-by bytes (e .before .before .if1 .left) (version-said e) (minimum-said (c .before .before .before) ∙ not-false _ (c .before .before .if3 .left))
+    (lt-leb (number32 bytes 2) mostRegion (omega (arith, region-said (c .before), c .if4 .taken)))
     )
 
 returns-5 : tie.Need-returns-5
@@ -76,8 +76,8 @@ returns-5 c =
     let bytes = now (e .before .before .before .before .args .bytes) in
     rw (c .before .before .before .before .wide .ensures .0, region-said (c .before))
     (sym (
-      header-by bytes (e .before .before .if1 .left) (version-said e) (minimum-said (c .before .before .before) ∙ not-false _ (c .before .before .if3 .left))
-          (le-leb (number32 bytes 2) mostRegion (omega (arith, region-said (c .before), c .if4 .left)))
+    header-by bytes (e .before .before .if1 .left) (version-said e) (minimum-said (c .before .before .before) ∙ not-false _ (c .before .before .if3 .left))
+    (le-leb (number32 bytes 2) mostRegion (omega (arith, region-said (c .before), c .if4 .left)))
     ))
 
 pub read-header-spec : {M : Type 1} → statement M

@@ -125,9 +125,9 @@ returns c =
     let s = c .before .before .before .before .before in
     let l = c .before .loop in
     reached-end (s .args .number) (memoryOf (s .args .arena) (now (s .args .region))) (now (s .args .window)) (now (s .args .out)) (l .held) (l .next)
-        (l .taken) (l .written) (l .region) (l .out) (l .inv .0)
-        (stops-by-room (l .inv .0 .turns) (length (now (s .args .out)) - l .written) (l .next) (memoryOf (l .held) (l .region)) (drop (l .taken) (now (s .args .window)))
-        (omega (arith, l .inv .0 .same, c .loop-test .left)))
+    (l .taken) (l .written) (l .region) (l .out) (l .inv .0)
+    (stops-by-room (l .inv .0 .turns) (length (now (s .args .out)) - l .written) (l .next) (memoryOf (l .held) (l .region)) (drop (l .taken) (now (s .args .window)))
+    (omega (arith, l .inv .0 .same, c .loop-test .left)))
 
 same-length-3 : tie.Need-same-length-3 Inv-loop μ-loop
 same-length-3 c = c .before .before .before .before .loop .inv .1
@@ -149,9 +149,9 @@ returns-2 c =
     let l = c .before .before .before .before .loop in
     let window = now (s .args .window) in
     reached-end (s .args .number) (memoryOf (s .args .arena) (now (s .args .region))) window (now (s .args .out)) (l .held) (l .next)
-        (l .taken) (l .written) (l .region) (l .out) (l .inv .0)
-        (stops-by-front (l .inv .0 .turns) (length (now (s .args .out)) - l .written) (l .next) (memoryOf (l .held) (l .region)) (drop (l .taken) window)
-        (sym (ap isWhole (c .before .read-front .ensures ∙ ap frontOf (take-all (length window - l .taken) (drop (l .taken) window) (le-of-eq (length-drop (l .taken) window))))) ∙ not-whole _ (c .match .keys2)))
+    (l .taken) (l .written) (l .region) (l .out) (l .inv .0)
+    (stops-by-front (l .inv .0 .turns) (length (now (s .args .out)) - l .written) (l .next) (memoryOf (l .held) (l .region)) (drop (l .taken) window)
+    (sym (ap isWhole (c .before .read-front .ensures ∙ ap frontOf (take-all (length window - l .taken) (drop (l .taken) window) (le-of-eq (length-drop (l .taken) window))))) ∙ not-whole _ (c .match .keys2)))
 
 pub run-window-spec : {M : Type 1} → statement M
 run-window-spec =
