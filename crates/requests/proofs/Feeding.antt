@@ -9,14 +9,14 @@ use lib.ListN.{length, take, drop, length-append, length-drop, drop-of-length-le
 use lib.Seq.{drop-at, length-take-le}
 use native.Mathlib.Nat.{le-of-eq}
 use Rattle.requests.specs.Request.{Request}
-use Rattle.requests.specs.Front.{Front, nothing, part, bad, whole, frontOf}
+use Rattle.requests.specs.Front.{Front, nothing, part, bad, whole, unfinished, frontOf}
 use Rattle.requests.specs.Header.{Memory}
 use Rattle.requests.specs.Parsed.{badRecord, parsedFrom, parsedWithin}
 use Rattle.requests.specs.Run.{run, answers}
 use Rattle.requests.specs.Text.{lineOf, endingLine, linesFrom}
 use Rattle.requests.specs.Replay.{closed}
 use Rattle.requests.specs.Machine.{Machine, running, stopped, machine, recordFed, fedAt, fed, endingAt, endingText, ended}
-use Rattle.requests.proofs.Settling.{unfinished, front-stays, whole-size, unfinished-short, front-own}
+use Rattle.requests.proofs.Settling.{front-stays, whole-size, unfinished-short, front-own}
 
 pub fed-append : (lent : List ℕ) (s : Machine) (p q : List ℕ) → fed lent s (p ++ q) ≡ fed lent (fed lent s p) q
 unfolding fed
@@ -38,7 +38,7 @@ settled lent bad n m bytes text = machine stopped n m [] (text ++ endingLine n b
 settled lent (whole size r) n m bytes text =
     fed lent (machine running (n + 1) (run r m .memory) [] (text ++ lineOf n (run r m .reply))) (drop size bytes)
 
-settled-unfinished : (lent : List ℕ) (f : Front) (n : ℕ) (m : Memory) (bytes text : List ℕ) → unfinished f ≡ true →
+pub settled-unfinished : (lent : List ℕ) (f : Front) (n : ℕ) (m : Memory) (bytes text : List ℕ) → unfinished f ≡ true →
     settled lent f n m bytes text ≡ machine running n m bytes text
 unfolding settled
 settled-unfinished lent nothing n m bytes text u = refl

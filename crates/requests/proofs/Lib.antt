@@ -12,3 +12,4 @@ pub mod Lines
 pub mod Stepping
 pub mod Windows
 pub mod Feeds
+pub mod Pieces

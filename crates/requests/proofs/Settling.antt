@@ -12,14 +12,7 @@ use lib.Seq.{take-append-le, length-take-le}
 use borrow.Author.Tests.{le-leb, lt-leb, leb-true, leb-false}
 use Rattle.requests.specs.Bytes.{byteAt, number16}
 use Rattle.requests.specs.Request.{Request, requestOf}
-use Rattle.requests.specs.Front.{Front, nothing, part, bad, whole, recordFront, frontOf}
-
--- the record at the front of the bytes is not whole yet
-abbrev pub unfinished : Front → Bool
-unfinished nothing = true
-unfinished part = true
-unfinished bad = false
-unfinished (whole size r) = false
+use Rattle.requests.specs.Front.{Front, nothing, part, bad, whole, unfinished, recordFront, frontOf}
 
 -- a whole record settles the front
 record-settles : (n : ℕ) (o : Option Request) → unfinished (recordFront n o) ≡ false

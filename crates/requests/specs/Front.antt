@@ -1,6 +1,6 @@
 -- Document 01, "The replay program": what stands at the front of the bytes.
 use Prim.Native.Nat.{ℕ, _+_}
-use mathlib.Core.Bool.{cond}
+use mathlib.Core.Bool.{Bool, true, false, cond}
 use mathlib.Core.List.{List, [], _∷_}
 use mathlib.Core.Option.{Option, none, some}
 use lib.ListN.{length, take}
@@ -14,6 +14,13 @@ pub data Front : Type 0 where
   part : Front
   bad : Front
   whole : ℕ → Request → Front
+
+-- the record is not whole yet
+abbrev pub unfinished : Front → Bool
+unfinished nothing = true
+unfinished part = true
+unfinished bad = false
+unfinished (whole size r) = false
 
 -- a whole record, of this many bytes after its length number
 unfoldable pub recordFront : ℕ → Option Request → Front

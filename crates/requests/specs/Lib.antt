@@ -11,3 +11,4 @@ pub mod Examples
 pub mod Inner
 pub mod Window
 pub mod Feed
+pub mod Pieces

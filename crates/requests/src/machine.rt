@@ -246,7 +246,8 @@ fn put_ending(out: &mut [u8], stage: Stage, number: usize, rest: &[u8]) -> usize
 // The bytes of the output that the end of the input may take.
 pub const END: usize = 128;
 
-// What the end of the input adds, with these bytes never taken: nothing where the output has fewer than 128 bytes, or the record is not sound.
+// What the end of the input adds, with these bytes left, which feeding takes nothing of: nothing where the output has fewer than 128 bytes, or the record
+// is not sound. What could still be fed is not looked for.
 pub fn finish(state: State, rest: &[u8], out: &mut [u8]) -> usize
     ensures { λ r. ⌜ Put (now (out .entry)) 0 (finalText (leb endRoom (length (now (out .entry))) && soundOf (state .arena)) (stageSaid (state .stage)) (state .number) (state .arena) (now (rest .entry))) (now (out .exit)) r ⌝ }
     ensures { λ r. ⌜ r ≤ length (now (out .exit)) ⌝ }
