@@ -22,9 +22,8 @@ use Rattle.requests.specs.declared.machine.State.{State}
 use Rattle.requests.specs.declared.machine.Fed.{Fed}
 use Rattle.requests.specs.Bytes.{byteAt, number32}
 use Rattle.requests.specs.Header.{Header, Memory, headerSize, mostRegion, goodHeader, headerOf, memoryFor}
-use Rattle.requests.specs.Machine.{Stage, heading, running, stopped, Machine, machine, headed}
+use Rattle.requests.specs.Machine.{Stage, heading, running, stopped, machine, headed}
 use Rattle.requests.specs.Front.{frontOf}
-use Rattle.requests.specs.Parsed.{badRecord}
 use Rattle.requests.specs.Text.{decimal, badRecordText, endingLine}
 use Rattle.requests.specs.Inner.{Put}
 use Rattle.requests.specs.declared.Stage.the-variants.{Running, Stopped}

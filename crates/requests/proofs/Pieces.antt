@@ -16,8 +16,8 @@ use Rattle.requests.specs.Front.{Front, nothing, part, bad, whole, unfin
 use Rattle.requests.specs.Header.{Header, Memory, headerSize, headerOf, memoryFor}
 use Rattle.requests.specs.Parsed.{badRecord}
 use Rattle.requests.specs.Text.{endingLine}
-use Rattle.requests.specs.Replay.{closed, replayOf}
-use Rattle.requests.specs.Machine.{Stage, heading, running, stopped, Machine, machine, start, headed, headerFed, fedAt, fed, endingText, ended}
+use Rattle.requests.specs.Replay.{closed}
+use Rattle.requests.specs.Machine.{Stage, heading, running, stopped, Machine, machine, start, headed, fedAt, fed, endingText, ended}
 use Rattle.requests.specs.Request.{Request}
 use Rattle.requests.specs.Window.{Passed, passed, lineRoom, passedWithin, passedOf}
 use Rattle.requests.specs.Feed.{Stepped, stepped, stays, isBad, afterPassed, runStep, stepAt}

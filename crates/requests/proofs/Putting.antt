@@ -3,26 +3,16 @@ use Prim.Native.Nat.{ℕ, _+_, _≤_}
 use native.Mathlib.Omega.{arith}
 use mathlib.Core.List.{List, _++_, append-assoc}
 use mathlib.Core.Path.{_≡_, sym, ap, _∙_}
-use lib.ListN.{length, take, drop, length-append, length-drop}
+use lib.ListN.{length, take, drop, length-append}
 use lib.Seq.{take-at, drop-append-add, drop-drop, length-take-le}
 use Rattle.calls.specs.Bytes.{written}
+use Rattle.calls.proofs.Writing.{length-written}
 use Rattle.requests.specs.Inner.{Put}
 
 module _ (out : List ℕ) (at : ℕ) (text : List ℕ) (fits : at + length text ≤ length out) where
   -- the output up to the end of the text
   front-length : length (take at out ++ text) ≡ at + length text
   front-length = rw (length-append (take at out) text, length-take-le at out (omega arith))
-
-  pub written-length : length (written out at text) ≡ length out
-  unfolding written
-  written-length =
-      rw (
-        length-append (take at out) (text ++ drop (at + length text) out),
-        length-append text (drop (at + length text) out),
-        length-take-le at out (omega arith),
-        length-drop (at + length text) out,
-      )
-      (omega arith)
 
   written-then : (more : List ℕ) → written (written out at text) (at + length text) more ≡ written out at (text ++ more)
   unfolding written
@@ -39,7 +29,7 @@ module _ (out : List ℕ) (at : ℕ) (text : List ℕ) (fits : at + length text 
 -- the output is as long as before
 pub put-length : {before : List ℕ} {at : ℕ} {text after : List ℕ} {next : ℕ} → at + length text ≤ length before → Put before at text after next →
     length after ≡ length before
-put-length {before} {at} {text} fits p = ap length (p .bytes) ∙ written-length before at text fits
+put-length {before} {at} {text} fits p = ap length (p .bytes) ∙ length-written before at text fits
 
 pub put-then : {before : List ℕ} {at : ℕ} {text middle : List ℕ} {next : ℕ} {more after : List ℕ} {end : ℕ} → at + length text ≤ length before →
     Put before at text middle next → Put middle next more after end → Put before at (text ++ more) after end

@@ -12,7 +12,7 @@ use lib.Seq.{take-append-le, length-take-le}
 use borrow.Author.Tests.{le-leb, lt-leb, leb-true, leb-false}
 use Rattle.requests.specs.Bytes.{byteAt, number16}
 use Rattle.requests.specs.Request.{Request, requestOf}
-use Rattle.requests.specs.Front.{Front, nothing, part, bad, whole, unfinished, recordFront, frontOf}
+use Rattle.requests.specs.Front.{nothing, part, whole, unfinished, recordFront, frontOf}
 
 -- a whole record settles the front
 record-settles : (n : ℕ) (o : Option Request) → unfinished (recordFront n o) ≡ false

@@ -11,7 +11,6 @@ use borrow.Author.Tests.{le-leb, lt-leb}
 use Rattle.calls.specs.Bytes.{written}
 use Rattle.arena.specs.declared.Arena.{Arena}
 use Rattle.arena.specs.Sound.{soundOf}
-use Rattle.requests.specs.declared.window.Progress.{Progress}
 use Rattle.requests.specs.Request.{Request}
 use Rattle.requests.specs.Front.{Front, nothing, part, bad, whole, frontOf}
 use Rattle.requests.specs.Header.{Memory}

@@ -11,7 +11,7 @@ use borrow.Author.Tests.{leb-true}
 use Rattle.arena.specs.Sound.{soundOf}
 use Rattle.requests.specs.Front.{Front, nothing, part, bad, whole, frontOf}
 use Rattle.requests.specs.Header.{Memory}
-use Rattle.requests.specs.Run.{Ran, run}
+use Rattle.requests.specs.Run.{run}
 use Rattle.requests.specs.Text.{lineOf}
 use Rattle.requests.specs.Machine.{Machine, running, machine, fed}
 use Rattle.requests.specs.Window.{Passed, passed, lineRoom, passedBy, passedWithin}

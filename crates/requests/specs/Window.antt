@@ -10,7 +10,7 @@ use Rattle.arena.specs.declared.Arena.{Arena}
 use Rattle.requests.specs.declared.window.Progress.{Progress}
 use Rattle.requests.specs.Front.{Front, nothing, part, bad, whole, frontOf}
 use Rattle.requests.specs.Header.{Memory}
-use Rattle.requests.specs.Run.{Ran, run}
+use Rattle.requests.specs.Run.{run}
 use Rattle.requests.specs.Text.{lineOf}
 use Rattle.requests.specs.Inner.{Put}
 

@@ -1,5 +1,4 @@
 -- `requests::machine::run_lent` meets its contract: the region's part is put back before the rest of the lent bytes. Assumes nothing.
-use native.Mathlib.Omega.{arith}
 use mathlib.Core.Path.{sym, _∙_}
 use borrow.Author.Needs.{needs}
 use denote.Ref.{now}
