@@ -4,7 +4,7 @@ use Prim.Native.Nat.{ℕ, zero, suc, _+_, _≤_}
 use native.Mathlib.Omega.{arith}
 use mathlib.Core.Bool.{true}
 use mathlib.Core.List.{List, [], _∷_, _++_, append-assoc, append-nil}
-use mathlib.Core.Path.{_≡_, refl, sym, ap, _∙_}
+use mathlib.Core.Path.{_≡_, refl, sym, ap}
 use lib.ListN.{length, take, drop, length-append, length-drop, drop-of-length-le}
 use lib.Seq.{drop-at, length-take-le}
 use native.Mathlib.Nat.{le-of-eq}
@@ -106,9 +106,3 @@ pub record-fed : (lent : List ℕ) (n : ℕ) (m : Memory) (p text : List ℕ) {s
 unfolding fed settled
 record-fed lent n m p text {size} {r} e =
     rw (run-on lent n m [] (take size p) text (unfold frontOf in refl), front-own p e, drop-of-length-le (take size p) {i = size} (le-of-eq (length-take-le size p (whole-size p e .1))))
-
--- bytes that were kept stand before those that follow: a window may begin with them
-pub kept-first : (lent : List ℕ) (n : ℕ) (m : Memory) (pending bytes text : List ℕ) → unfinished (frontOf pending) ≡ true →
-    fed lent (machine running n m pending text) bytes ≡ fed lent (machine running n m [] text) (pending ++ bytes)
-kept-first lent n m pending bytes text u =
-    run-on lent n m pending bytes text u ∙ sym (run-on lent n m [] (pending ++ bytes) text (unfold frontOf in refl))

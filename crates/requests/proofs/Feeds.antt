@@ -68,7 +68,7 @@ module _ (lent : List ℕ) (n : ℕ) (m : Memory) (window : List ℕ) (room : �
   heading-opens h r e = rw (le-leb headerSize (length window) h, le-leb lineRoom room r, e)
 
 -- a good header's arena is made, and has the header's region
-pub header-made : (bytes : List ℕ) {h : Header} → headerOf bytes ≡ some h → createdOf (h .region) (h .minimum) 0 .arena .head .region ≡ h .region
+header-made : (bytes : List ℕ) {h : Header} → headerOf bytes ≡ some h → createdOf (h .region) (h .minimum) 0 .arena .head .region ≡ h .region
 unfolding headerOf goodHeader holding
 header-made bytes {h} e =
     let p = only-passed (goodHeader bytes) (record { minimum = byteAt bytes 1; region = number32 bytes 2 }) e in
@@ -231,7 +231,7 @@ running-inside lent n m window room =
     go : (p : Passed) → Runs room n m window p → Inside (runStep room window p) window room
     go p h = by p h (leb lineRoom (room - length (p .text)) && isBad (frontOf (drop (p .taken) window))) refl
 
-pub step-inside : (ready : Bool) (stage : Stage) (lent : List ℕ) (n : ℕ) (m : Memory) (window : List ℕ) (room : ℕ) →
+step-inside : (ready : Bool) (stage : Stage) (lent : List ℕ) (n : ℕ) (m : Memory) (window : List ℕ) (room : ℕ) →
     Inside (stepOf ready stage lent n m window room) window room
 unfolding stepOf stepAt
 step-inside false stage lent n m window room = stays-inside stage n m window room
@@ -239,7 +239,7 @@ step-inside true heading lent n m window room = heading-inside lent n m window r
 step-inside true running lent n m window room = running-inside lent n m window room
 step-inside true stopped lent n m window room = record { taken = omega arith; text = omega arith }
 
-pub came-inside : {s : Stepped} {lent₀ out₀ : List ℕ} {got : Fed} {lent out window : List ℕ} → Came s lent₀ out₀ got lent out →
+came-inside : {s : Stepped} {lent₀ out₀ : List ℕ} {got : Fed} {lent out window : List ℕ} → Came s lent₀ out₀ got lent out →
     Inside s window (length out₀) → length out ≡ length out₀ → (got .taken ≤ length window) × (got .written ≤ length out)
 came-inside c i e = (omega (arith, c .taken, i .taken), omega (arith, c .put .moved, i .text, e))
 

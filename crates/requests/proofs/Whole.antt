@@ -2,9 +2,9 @@
 use Prim.Native.Nat.{ℕ}
 use native.Mathlib.Nat.{le-refl}
 use mathlib.Core.Bool.{Bool, true, false, cond}
-use mathlib.Core.List.{List, [], _++_}
+use mathlib.Core.List.{List, []}
 use mathlib.Core.Option.{Option, none, some}
-use mathlib.Core.Path.{_≡_, refl, sym, ap, _∙_}
+use mathlib.Core.Path.{_≡_, refl}
 use lib.Dec.{ltb}
 use lib.ListN.{length, drop}
 use borrow.Author.Tests.{ltb-true}
@@ -13,7 +13,7 @@ use Rattle.requests.specs.Parsed.{parsed}
 use Rattle.requests.specs.Text.{badHeaderText}
 use Rattle.requests.specs.Replay.{replayedBy, replayOf}
 use Rattle.requests.specs.Machine.{heading, machine, start, headed, fed, endingText, ended}
-use Rattle.requests.proofs.Feeding.{RunsOut, runs-out, fed-append, fed-stopped}
+use Rattle.requests.proofs.Feeding.{RunsOut, runs-out, fed-stopped}
 use Rattle.requests.proofs.Heading.{short-header, openedBy, opened}
 
 after-header : (lent : List ℕ) (h : Option Header) (bytes : List ℕ) →
@@ -34,7 +34,3 @@ fed-whole lent bytes = rw (opened lent bytes) (go (ltb (length bytes) headerSize
         ≡ replayedBy (headerOf bytes) (memoryFor lent (headerOf bytes)) (drop headerSize bytes)
     go true t = short (short-header bytes (ltb-true (length bytes) headerSize t))
     go false t = after-header lent (headerOf bytes) (drop headerSize bytes)
-
--- cut in two anywhere
-pub fed-in-pieces : (lent p q : List ℕ) → ended (fed lent (fed lent (start lent) p) q) ≡ replayOf lent (p ++ q)
-fed-in-pieces lent p q = ap ended (sym (fed-append lent (start lent) p q)) ∙ fed-whole lent (p ++ q)
