@@ -1,4 +1,4 @@
--- The machine is the definition: fed a whole file, in whatever pieces, and ended, it gives the text and the memory of the file. Assumes nothing.
+-- The machine is the definition: fed a whole file and ended, it gives the text and the memory of the file. Assumes nothing.
 use Prim.Native.Nat.{ℕ}
 use native.Mathlib.Nat.{le-refl}
 use mathlib.Core.Bool.{Bool, true, false, cond}
