@@ -1,4 +1,5 @@
 pub mod Cases
+pub mod Changing
 pub mod Emptied
 pub mod Lowest
 pub mod Made

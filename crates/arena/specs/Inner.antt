@@ -7,15 +7,18 @@ use mathlib.Core.Option.{Option, none, some}
 use lib.Dec.{leb}
 use Rattle.rounding.specs.Every.{every, Each}
 use Rattle.arena.specs.declared.Head.{Head}
+use Rattle.arena.specs.declared.Arena.{Arena}
 use Rattle.arena.specs.declared.Chunk.{Chunk}
 use Rattle.arena.specs.declared.placing.Place.{Place}
 use Rattle.arena.specs.declared.placing.Place.the-variants.{At, Nowhere}
 use Rattle.arena.specs.declared.ladder.NewChunk.{NewChunk}
 use Rattle.arena.specs.declared.ladder.NewChunk.the-variants.{Taken, Nothing}
+use Rattle.arena.specs.declared.change.Change.{Change}
+use Rattle.arena.specs.declared.change.Change.the-variants.{Same, Moved, Added}
 use Rattle.arena.specs.declared.sound.Row.{Row}
 use Rattle.arena.specs.declared.sound.Row.the-variants.{Unsound, Ascending, Unordered}
 use Rattle.arena.specs.Numbers.{places, most}
-use Rattle.arena.specs.Record.{pastOf, withPointer}
+use Rattle.arena.specs.Record.{pastOf, withPointer, heldOf, holding}
 use Rattle.arena.specs.Sound.{chunkSound}
 use Rattle.arena.specs.Placing.{misses}
 
@@ -40,6 +43,12 @@ newChunkOf none = Nothing
 unfoldable pub movedTo : List Chunk → ℕ → List Chunk
 movedTo [] p = []
 movedTo (c ∷ cs) p = withPointer c p ∷ cs
+
+-- a sound record once a change is made; no chunk is added to a full table
+unfoldable pub changedBy : Change → Arena → Arena
+changedBy Same a = a
+changedBy (Moved p) a = holding (a .head) (movedTo (heldOf a) p)
+changedBy (Added c) a = cond (leb places (a .head .count)) a (holding (a .head) (c ∷ heldOf a))
 
 -- what going once through the table from an offset comes to: a multiple at or past it, none between them free of the chunks, and the offset
 -- itself only where it is free of them

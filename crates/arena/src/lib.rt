@@ -1,5 +1,6 @@
 // The arena's record, and the rules of document 01 beneath every call: soundness, sizing, placing, the ladder, creation, limits, reset.
 
+pub mod change;
 pub mod creation;
 pub mod ladder;
 mod limit;
