@@ -16,6 +16,7 @@ pub mod Moving
 pub mod Needing
 pub mod Ordered
 pub mod Passing
+pub mod Placing
 pub mod Pointing
 pub mod Reading
 pub mod Requests

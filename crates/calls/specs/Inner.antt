@@ -10,11 +10,13 @@ use Rattle.arena.specs.declared.Arena.{Arena}
 use Rattle.arena.specs.declared.Chunk.{Chunk}
 use Rattle.arena.specs.declared.Answer.{Answer}
 use Rattle.arena.specs.declared.Refusal.the-variants.{Direction}
+use Rattle.arena.specs.Inner.{changedBy}
 use Rattle.arena.specs.Numbers.{most}
 use Rattle.arena.specs.Record.{heldOf}
 use Rattle.arena.specs.Refusals.{Test, test, refusedBy}
 use Rattle.arena.specs.Sound.{allowedAlign, soundOf, stateTest}
 use Rattle.calls.specs.declared.Allocation.{Allocation}
+use Rattle.calls.specs.declared.Placed.{Placed}
 use Rattle.calls.specs.declared.Token.{Token}
 use Rattle.calls.specs.declared.TokenAllocation.{TokenAllocation}
 use Rattle.calls.specs.declared.fast.Fast.{Fast}
@@ -39,6 +41,13 @@ pub record Tested (a : Arena) (size align : ℕ) : Type 0 where
   pub sound : soundOf a ≡ true
   pub size-bound : size ≤ most
   pub align-allowed : allowedAlign align ≡ true
+
+-- what an inner form's answer comes to, once its change is made
+abbrev pub placedOf : Arena → Placed → Allocation
+placedOf a placed = record { answer = placed .answer; arena = changedBy (placed .change) a }
+
+abbrev pub PlacedBy : (Arena → Allocation) → Arena → Placed → Type 0
+PlacedBy call a placed = placedOf a placed ≡ call a
 
 -- an allocation with the token that was recorded before it
 abbrev pub withToken : Allocation → Token → TokenAllocation

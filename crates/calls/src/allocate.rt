@@ -3,25 +3,29 @@ ghost use mathlib.Core.Path.{_≡_};
 ghost use mathlib.Core.Bool.{true};
 ghost use mathlib.Core.Option.{none, some};
 ghost use lib.ListN.{length};
-ghost use Rattle.arena.specs.Record.{heldOf};
+ghost use Rattle.arena.specs.Record.{recordOf, heldOf};
 ghost use Rattle.arena.specs.Sound.{soundOf};
 ghost use Rattle.arena.specs.Ladder.{ladder};
 ghost use Rattle.calls.specs.Allocate.{newChunkGives, allocateIn, given, allocateOf};
-ghost use Rattle.calls.specs.Inner.{Tested};
+ghost use Rattle.arena.specs.declared.change.Change.the-variants.{Same};
+ghost use Rattle.calls.specs.declared.Given.the-variants.{Refused};
+ghost use Rattle.calls.specs.Inner.{placedOf, PlacedBy, Tested};
 use crate::Allocation;
 use crate::Given;
+use crate::Placed;
 use crate::fast::Fast;
 use crate::fast::chunk_gives;
 use crate::fast::current_gives;
 use arena::Arena;
 use arena::Chunk;
+use arena::Head;
 use arena::Refusal;
-use arena::creation::with_chunk;
+use arena::change::Change;
+use arena::change::changed;
 use arena::ladder::NewChunk;
 use arena::ladder::climb;
 use arena::sound::is_allowed_align;
 use arena::sound::is_sound;
-use arena::table::with_pointer;
 
 // The record goes back as it came.
 pub fn refused(a: Arena, r: Refusal) -> Allocation
@@ -33,56 +37,112 @@ pub fn refused(a: Arena, r: Refusal) -> Allocation
     }
 }
 
-// The ladder's part: a new chunk becomes current and gives the block.
-fn allocate_slow(a: Arena, size: usize, align: usize) -> Allocation
-    requires { ⌜ Tested a size align ⌝ }
-    ensures { λ r. ⌜ r ≡ given none a (newChunkGives (a .head .minimum) (heldOf a) (ladder (a .head) (heldOf a) size align) size align) ⌝ }
+// No block, and the record stays as it is.
+pub fn nowhere(r: Refusal) -> Placed
+    ensures { λ out. ⌜ out ≡ record { answer = Refused r; change = Same } ⌝ }
 {
-    let NewChunk::Taken(c) = climb(a.head, &a.starts, &a.sizes, &a.pointers, size, align) else {
-        return refused(a, Refusal::Room);
+    Placed {
+        answer: Given::Refused(r),
+        change: Change::Same,
+    }
+}
+
+// The ladder's part: a new chunk becomes current and gives the block.
+fn placed_slow<'a>(
+    h: Head,
+    starts: &'a [usize; 32],
+    sizes: &'a [usize; 32],
+    pointers: &'a [usize; 32],
+    size: usize,
+    align: usize,
+) -> Placed
+    requires { ⌜ Tested (recordOf h (now starts) (now sizes) (now pointers)) size align ⌝ }
+    ensures { λ r. ⌜ PlacedBy (λ a. given none a (newChunkGives (a .head .minimum) (heldOf a) (ladder (a .head) (heldOf a) size align) size align)) (recordOf h (now (starts .entry)) (now (sizes .entry)) (now (pointers .entry))) r ⌝ }
+{
+    let NewChunk::Taken(c) = climb(h, starts, sizes, pointers, size, align) else {
+        return nowhere(Refusal::Room);
     };
-    let Fast::Room(p) = chunk_gives(a.head.minimum, c, size, align) else {
-        return refused(a, Refusal::Room);
+    let Fast::Room(p) = chunk_gives(h.minimum, c, size, align) else {
+        return nowhere(Refusal::Room);
     };
     let current = Chunk {
         start: c.start,
         size: c.size,
         pointer: p,
     };
-    let held = with_chunk(a, current);
-    Allocation {
+    Placed {
         answer: Given::At(p),
-        arena: held,
+        change: Change::Added(current),
     }
 }
 
 // The work, on a record and a request that have been tested.
-pub fn allocate_tested(a: Arena, size: usize, align: usize) -> Allocation
-    requires { ⌜ Tested a size align ⌝ }
-    ensures { λ r. ⌜ r ≡ given none a (allocateIn (a .head) (heldOf a) size align) ⌝ }
+pub fn placed_tested<'a>(
+    h: Head,
+    starts: &'a [usize; 32],
+    sizes: &'a [usize; 32],
+    pointers: &'a [usize; 32],
+    size: usize,
+    align: usize,
+) -> Placed
+    requires { ⌜ Tested (recordOf h (now starts) (now sizes) (now pointers)) size align ⌝ }
+    ensures { λ r. ⌜ PlacedBy (λ a. given none a (allocateIn (a .head) (heldOf a) size align)) (recordOf h (now (starts .entry)) (now (sizes .entry)) (now (pointers .entry))) r ⌝ }
 {
-    let Fast::Room(p) = current_gives(a.head, &a.starts, &a.sizes, &a.pointers, size, align) else {
-        return allocate_slow(a, size, align);
+    let Fast::Room(p) = current_gives(h, starts, sizes, pointers, size, align) else {
+        return placed_slow(h, starts, sizes, pointers, size, align);
     };
-    let moved = with_pointer(a, p);
-    Allocation {
+    Placed {
         answer: Given::At(p),
-        arena: moved,
+        change: Change::Moved(p),
     }
 }
 
 // On a record that is known to be sound, lent its own region.
+pub fn allocate_placed<'a>(
+    h: Head,
+    starts: &'a [usize; 32],
+    sizes: &'a [usize; 32],
+    pointers: &'a [usize; 32],
+    size: usize,
+    align: usize,
+) -> Placed
+    requires { ⌜ soundOf (recordOf h (now starts) (now sizes) (now pointers)) ≡ true ⌝ }
+    ensures { λ r. ⌜ PlacedBy (λ a. allocateOf a (a .head .region) size align) (recordOf h (now (starts .entry)) (now (sizes .entry)) (now (pointers .entry))) r ⌝ }
+{
+    if Arena::MOST < size {
+        return nowhere(Refusal::Size);
+    }
+    if !is_allowed_align(align) {
+        return nowhere(Refusal::Align);
+    }
+    placed_tested(h, starts, sizes, pointers, size, align)
+}
+
+// The change made, of a record by value.
+pub fn settled(a: Arena, placed: Placed) -> Allocation
+    requires { ⌜ soundOf a ≡ true ⌝ }
+    ensures { λ r. ⌜ r ≡ placedOf a placed ⌝ }
+{
+    let answer = placed.answer;
+    let change = placed.change;
+    let arena = changed(a, change);
+    Allocation { answer, arena }
+}
+
+pub fn allocate_tested(a: Arena, size: usize, align: usize) -> Allocation
+    requires { ⌜ Tested a size align ⌝ }
+    ensures { λ r. ⌜ r ≡ given none a (allocateIn (a .head) (heldOf a) size align) ⌝ }
+{
+    let placed = placed_tested(a.head, &a.starts, &a.sizes, &a.pointers, size, align);
+    settled(a, placed)
+}
+
 pub fn allocate_sound(a: Arena, size: usize, align: usize) -> Allocation
     requires { ⌜ soundOf a ≡ true ⌝ }
     ensures { λ r. ⌜ r ≡ allocateOf a (a .head .region) size align ⌝ }
 {
-    if Arena::MOST < size {
-        return refused(a, Refusal::Size);
-    }
-    if !is_allowed_align(align) {
-        return refused(a, Refusal::Align);
-    }
-    allocate_tested(a, size, align)
+    let placed = allocate_placed(a.head, &a.starts, &a.sizes, &a.pointers, size, align);
+    settled(a, placed)
 }
 
 pub fn allocate(a: Arena, region: &[u8], size: usize, align: usize) -> Allocation

@@ -14,6 +14,7 @@ pub mod write;
 
 use arena::Arena;
 use arena::Refusal;
+use arena::change::Change;
 
 // What a call that gives out a block answers.
 pub enum Given {
@@ -24,6 +25,12 @@ pub enum Given {
 pub struct Allocation {
     pub answer: Given,
     pub arena: Arena,
+}
+
+// What the inner form of such a call answers: the block, and what changes in the record, which stays with its holder.
+pub struct Placed {
+    pub answer: Given,
+    pub change: Change,
 }
 
 // What allocate with a token records: the chunk count and the current pointer before it.

@@ -6,9 +6,11 @@ ghost use lib.ListN.{length};
 ghost use Rattle.arena.specs.Sound.{soundOf};
 use arena::Answer;
 use arena::Arena;
+use arena::change::make;
 use arena::reset::kept_by_reset;
 use arena::sound::is_sound;
 use calls::Given;
+use calls::allocate::allocate_placed;
 use calls::allocate::allocate_sound;
 use calls::free::free_sound;
 use calls::grow::grow_sound;
@@ -19,14 +21,18 @@ use calls::tokens::cancel_sound;
 fn allocate_turns(a: Arena, turns: usize, size: usize) -> usize
     requires { ⌜ soundOf a ≡ true ⌝ }
 {
-    let mut now = a;
+    let mut head = a.head;
+    let mut starts = a.starts;
+    let mut sizes = a.sizes;
+    let mut pointers = a.pointers;
     for turn in 0..turns {
-        let got = allocate_sound(now, size, 8);
+        let got = allocate_placed(head, &starts, &sizes, &pointers, size, 8);
         let answer = got.answer;
         let Given::At(_) = answer else {
             return turn;
         };
-        now = got.arena;
+        let change = got.change;
+        head = make(head, &mut starts, &mut sizes, &mut pointers, change);
     }
     turns
 }

@@ -4,22 +4,23 @@ use native.Mathlib.Omega.{arith}
 use mathlib.Core.Bool.{true}
 use mathlib.Core.Path.{_≡_, ap, _∙_}
 use borrow.Author.Needs.{needs}
+use Rattle.arena.specs.Record.{recordOf}
 use Rattle.arena.specs.Sound.{soundOf}
 use Rattle.calls.proofs.StaysSound.{allocate-sound}
 use Rattle.cost.proofs.inner.allocate_turns.Statement.{statement}
 use Rattle.cost.proofs.inner.allocate_turns.Tie as tie
 
 abbrev Inv-loop : tie.InvT-loop
-Inv-loop turns size now₀ turn₀ now turn = (turn ≤ turns) × (soundOf now ≡ true)
+Inv-loop turns size head₀ starts₀ sizes₀ pointers₀ turn₀ head starts sizes pointers turn = (turn ≤ turns) × (soundOf (recordOf head starts sizes pointers) ≡ true)
 
 abbrev μ-loop : tie.MeasureT-loop
-μ-loop turns size now₀ turn₀ now turn = turns - turn
+μ-loop turns size head₀ starts₀ sizes₀ pointers₀ turn₀ head starts sizes pointers turn = turns - turn
 
 loop-holds : tie.Need-loop-holds Inv-loop μ-loop
 loop-holds c = search needs
 
-allocate-sound-requires : tie.Need-allocate-sound-requires Inv-loop μ-loop
-allocate-sound-requires c κs = search needs
+allocate-placed-requires : tie.Need-allocate-placed-requires Inv-loop μ-loop
+allocate-placed-requires c κs = search needs
 
 enum-told : tie.Need-enum-told Inv-loop μ-loop
 enum-told c = search needs
@@ -30,6 +31,9 @@ enum-told-2 c = search needs
 returns : tie.Need-returns Inv-loop μ-loop
 returns c = search needs
 
+make-requires : tie.Need-make-requires Inv-loop μ-loop
+make-requires c κs = search needs
+
 add-turn : tie.Need-add-turn Inv-loop μ-loop
 add-turn c = omega arith
 
@@ -38,9 +42,12 @@ loop-less c = omega arith
 
 loop-again : tie.Need-loop-again Inv-loop μ-loop
 loop-again c =
-    let r = c .before .before .before in
-    let l = r .before .before .loop in
-    (omega arith, ap (λ o. soundOf (o .arena)) (r .allocate-sound .ensures) ∙ allocate-sound (l .now) (l .inv .1) _ _ _)
+    let l = c .before .before .before .before .before .before .before .before .before .before .before .loop in (
+      omega arith,
+      ap soundOf (c .make .ensures)
+          ∙ ap (λ o. soundOf (o .arena)) (c .before .before .before .before .before .before .allocate-placed .ensures)
+          ∙ allocate-sound (recordOf (l .head) (l .starts) (l .sizes) (l .pointers)) (l .inv .1) _ _ _,
+    )
 
 returns-2 : tie.Need-returns-2 Inv-loop μ-loop
 returns-2 c = search needs
@@ -52,10 +59,11 @@ allocate-turns-spec =
     Inv-loop
     μ-loop
     loop-holds
-    allocate-sound-requires
+    allocate-placed-requires
     enum-told
     enum-told-2
     returns
+    make-requires
     add-turn
     loop-less
     loop-again
