@@ -76,7 +76,8 @@ fn placed_slow<'a>(
     }
 }
 
-// The work, on a record and a request that have been tested.
+// The work, on a record and a request that have been tested. The ladder is called from two places, so that the compiler leaves it a function of its own and
+// puts this one, which is short, into its callers.
 pub fn placed_tested<'a>(
     h: Head,
     starts: &'a [usize; 32],
@@ -88,6 +89,9 @@ pub fn placed_tested<'a>(
     requires { ⌜ Tested (recordOf h (now starts) (now sizes) (now pointers)) size align ⌝ }
     ensures { λ r. ⌜ PlacedBy (λ a. given none a (allocateIn (a .head) (heldOf a) size align)) (recordOf h (now (starts .entry)) (now (sizes .entry)) (now (pointers .entry))) r ⌝ }
 {
+    if h.count == 0 {
+        return placed_slow(h, starts, sizes, pointers, size, align);
+    }
     let Fast::Room(p) = current_gives(h, starts, sizes, pointers, size, align) else {
         return placed_slow(h, starts, sizes, pointers, size, align);
     };
