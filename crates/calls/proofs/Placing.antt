@@ -7,6 +7,7 @@ use mathlib.Core.Path.{_≡_, _∙_, sym, ap}
 use borrow.Author.Tests.{lt-leb}
 use Rattle.arena.specs.declared.Arena.{Arena}
 use Rattle.arena.specs.declared.Chunk.{Chunk}
+use Rattle.arena.specs.declared.Answer.the-variants.{Refused as Refused·answer}
 use Rattle.arena.specs.declared.Refusal.{Refusal}
 use Rattle.arena.specs.declared.Refusal.the-variants.{Room}
 use Rattle.arena.specs.declared.change.Change.the-variants.{Same, Moved, Added}
@@ -15,8 +16,9 @@ use Rattle.arena.specs.Record.{heldOf}
 use Rattle.arena.specs.Inner.{movedTo, changedBy}
 use Rattle.calls.specs.declared.Given.the-variants.{At, Refused}
 use Rattle.calls.specs.declared.Placed.{Placed}
+use Rattle.calls.specs.declared.Ended.{Ended}
 use Rattle.calls.specs.Allocate.{Taken, given}
-use Rattle.calls.specs.Inner.{placedOf}
+use Rattle.calls.specs.Inner.{placedOf, endedOf}
 
 module _ (a : Arena) where
   -- a refusal, and that of a request that the rules serve nothing for
@@ -28,6 +30,11 @@ module _ (a : Arena) where
       placedOf a placed ≡ given none a t
   unfolding changedBy given
   placed-nowhere e f = ap (placedOf a) e ∙ sym (ap (given none a) f)
+
+  pub ended-refused : {ended : Ended} {r : Refusal} → ended ≡ record { answer = Refused·answer r; change = Same } →
+      endedOf a ended ≡ record { answer = Refused·answer r; arena = a }
+  unfolding changedBy
+  ended-refused e = ap (endedOf a) e
 
   -- the current chunk's block, and a new chunk's
   pub placed-moved : {p : ℕ} {t : Option Taken} → t ≡ some (record { offset = p; chunks = movedTo (heldOf a) p }) →

@@ -9,6 +9,8 @@ use Rattle.rounding.specs.Round.{roundUp}
 use Rattle.arena.specs.declared.Arena.{Arena}
 use Rattle.arena.specs.declared.Chunk.{Chunk}
 use Rattle.arena.specs.declared.Answer.{Answer}
+use Rattle.arena.specs.declared.Outcome.{Outcome}
+use Rattle.arena.specs.declared.change.Change.{Change}
 use Rattle.arena.specs.declared.Refusal.the-variants.{Direction}
 use Rattle.arena.specs.Inner.{changedBy}
 use Rattle.arena.specs.Numbers.{most}
@@ -17,6 +19,7 @@ use Rattle.arena.specs.Refusals.{Test, test, refusedBy}
 use Rattle.arena.specs.Sound.{allowedAlign, soundOf, stateTest}
 use Rattle.calls.specs.declared.Allocation.{Allocation}
 use Rattle.calls.specs.declared.Placed.{Placed}
+use Rattle.calls.specs.declared.Ended.{Ended}
 use Rattle.calls.specs.declared.Token.{Token}
 use Rattle.calls.specs.declared.TokenAllocation.{TokenAllocation}
 use Rattle.calls.specs.declared.fast.Fast.{Fast}
@@ -48,6 +51,15 @@ placedOf a placed = record { answer = placed .answer; arena = changedBy (placed 
 
 abbrev pub PlacedBy : (Arena → Allocation) → Arena → Placed → Type 0
 PlacedBy call a placed = placedOf a placed ≡ call a
+
+abbrev pub endedOf : Arena → Ended → Outcome
+endedOf a ended = record { answer = ended .answer; arena = changedBy (ended .change) a }
+
+abbrev pub EndedBy : (Arena → Outcome) → Arena → Ended → Type 0
+EndedBy call a ended = endedOf a ended ≡ call a
+
+abbrev pub ChangedBy : (Arena → Arena) → Arena → Change → Type 0
+ChangedBy work a change = changedBy change a ≡ work a
 
 -- an allocation with the token that was recorded before it
 abbrev pub withToken : Allocation → Token → TokenAllocation

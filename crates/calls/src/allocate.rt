@@ -7,21 +7,20 @@ ghost use Rattle.arena.specs.Record.{recordOf, heldOf};
 ghost use Rattle.arena.specs.Sound.{soundOf};
 ghost use Rattle.arena.specs.Ladder.{ladder};
 ghost use Rattle.calls.specs.Allocate.{newChunkGives, allocateIn, given, allocateOf};
-ghost use Rattle.arena.specs.declared.change.Change.the-variants.{Same};
-ghost use Rattle.calls.specs.declared.Given.the-variants.{Refused};
-ghost use Rattle.calls.specs.Inner.{placedOf, PlacedBy, Tested};
+ghost use Rattle.calls.specs.Inner.{PlacedBy, Tested};
 use crate::Allocation;
 use crate::Given;
 use crate::Placed;
 use crate::fast::Fast;
 use crate::fast::chunk_gives;
 use crate::fast::current_gives;
+use crate::settle::nowhere;
+use crate::settle::settled;
 use arena::Arena;
 use arena::Chunk;
 use arena::Head;
 use arena::Refusal;
 use arena::change::Change;
-use arena::change::changed;
 use arena::ladder::NewChunk;
 use arena::ladder::climb;
 use arena::sound::is_allowed_align;
@@ -34,16 +33,6 @@ pub fn refused(a: Arena, r: Refusal) -> Allocation
     Allocation {
         answer: Given::Refused(r),
         arena: a,
-    }
-}
-
-// No block, and the record stays as it is.
-pub fn nowhere(r: Refusal) -> Placed
-    ensures { λ out. ⌜ out ≡ record { answer = Refused r; change = Same } ⌝ }
-{
-    Placed {
-        answer: Given::Refused(r),
-        change: Change::Same,
     }
 }
 
@@ -120,17 +109,6 @@ pub fn allocate_placed<'a>(
         return nowhere(Refusal::Align);
     }
     placed_tested(h, starts, sizes, pointers, size, align)
-}
-
-// The change made, of a record by value.
-pub fn settled(a: Arena, placed: Placed) -> Allocation
-    requires { ⌜ soundOf a ≡ true ⌝ }
-    ensures { λ r. ⌜ r ≡ placedOf a placed ⌝ }
-{
-    let answer = placed.answer;
-    let change = placed.change;
-    let arena = changed(a, change);
-    Allocation { answer, arena }
 }
 
 pub fn allocate_tested(a: Arena, size: usize, align: usize) -> Allocation

@@ -3,17 +3,22 @@ ghost use mathlib.Core.Path.{_≡_};
 ghost use mathlib.Core.Bool.{true};
 ghost use Prim.Native.Nat.{_+_, _≤_};
 ghost use Rattle.arena.specs.declared.Answer.the-variants.{Refused};
-ghost use Rattle.arena.specs.Record.{heldOf, holding};
+ghost use Rattle.arena.specs.Record.{recordOf, heldOf, holding};
 ghost use Rattle.arena.specs.Sound.{soundOf};
 ghost use Rattle.calls.specs.Free.{freed, freeOf};
+ghost use Rattle.calls.specs.Inner.{EndedBy, ChangedBy};
+use crate::Ended;
 use crate::block::is_at_pointer;
 use crate::refusals::block_answer;
+use crate::settle::finished;
+use crate::settle::unended;
 use arena::Answer;
 use arena::Arena;
+use arena::Head;
 use arena::Outcome;
 use arena::Refusal;
+use arena::change::Change;
 use arena::sound::is_sound;
-use arena::table::with_pointer;
 
 // The record goes back as it came.
 fn refused(a: Arena, r: Refusal) -> Outcome
@@ -27,38 +32,52 @@ fn refused(a: Arena, r: Refusal) -> Outcome
 
 // The work, on a record that is known to be sound and a block that lies in the region. The pointer goes past the block's own bytes only: what its alignment
 // took beyond them stays unused.
-pub fn free_tested(a: Arena, offset: usize, size: usize) -> Arena
-    requires { ⌜ (soundOf a ≡ true) × (offset + size ≤ a .head .region) ⌝ }
-    ensures { λ r. ⌜ r ≡ holding (a .head) (freed (a .head .minimum) (heldOf a) offset size) ⌝ }
+fn free_tested<'a>(
+    h: Head,
+    starts: &'a [usize; 32],
+    sizes: &'a [usize; 32],
+    pointers: &'a [usize; 32],
+    offset: usize,
+    size: usize,
+) -> Change
+    requires { ⌜ (soundOf (recordOf h (now starts) (now sizes) (now pointers)) ≡ true) × (offset + size ≤ h .region) ⌝ }
+    ensures { λ r. ⌜ ChangedBy (λ a. holding (a .head) (freed (a .head .minimum) (heldOf a) offset size)) (recordOf h (now (starts .entry)) (now (sizes .entry)) (now (pointers .entry))) r ⌝ }
 {
-    if !is_at_pointer(a.head, &a.starts, &a.sizes, &a.pointers, offset) {
-        return a;
+    if !is_at_pointer(h, starts, sizes, pointers, offset) {
+        return Change::Same;
     }
-    let top = rounding::round_up_to(offset + size, a.head.minimum);
-    with_pointer(a, top)
+    Change::Moved(rounding::round_up_to(offset + size, h.minimum))
 }
 
 // On a record that is known to be sound.
+pub fn free_ended<'a>(
+    h: Head,
+    starts: &'a [usize; 32],
+    sizes: &'a [usize; 32],
+    pointers: &'a [usize; 32],
+    offset: usize,
+    size: usize,
+    align: usize,
+) -> Ended
+    requires { ⌜ soundOf (recordOf h (now starts) (now sizes) (now pointers)) ≡ true ⌝ }
+    ensures { λ r. ⌜ EndedBy (λ a. freeOf a offset size align) (recordOf h (now (starts .entry)) (now (sizes .entry)) (now (pointers .entry))) r ⌝ }
+{
+    if let Answer::Refused(r) = block_answer(h, starts, sizes, pointers, offset, size, align) {
+        return unended(r);
+    }
+    let change = free_tested(h, starts, sizes, pointers, offset, size);
+    Ended {
+        answer: Answer::Done,
+        change,
+    }
+}
+
 pub fn free_sound(a: Arena, offset: usize, size: usize, align: usize) -> Outcome
     requires { ⌜ soundOf a ≡ true ⌝ }
     ensures { λ r. ⌜ r ≡ freeOf a offset size align ⌝ }
 {
-    if let Answer::Refused(r) = block_answer(
-        a.head,
-        &a.starts,
-        &a.sizes,
-        &a.pointers,
-        offset,
-        size,
-        align,
-    ) {
-        return refused(a, r);
-    }
-    let held = free_tested(a, offset, size);
-    Outcome {
-        answer: Answer::Done,
-        arena: held,
-    }
+    let ended = free_ended(a.head, &a.starts, &a.sizes, &a.pointers, offset, size, align);
+    finished(a, ended)
 }
 
 pub fn free(a: Arena, offset: usize, size: usize, align: usize) -> Outcome

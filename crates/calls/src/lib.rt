@@ -8,10 +8,12 @@ pub mod grow;
 pub mod lend;
 mod refusals;
 pub mod resize;
+pub mod settle;
 pub mod shrink;
 pub mod tokens;
 pub mod write;
 
+use arena::Answer;
 use arena::Arena;
 use arena::Refusal;
 use arena::change::Change;
@@ -30,6 +32,12 @@ pub struct Allocation {
 // What the inner form of such a call answers: the block, and what changes in the record, which stays with its holder.
 pub struct Placed {
     pub answer: Given,
+    pub change: Change,
+}
+
+// The same of a call that ends a block.
+pub struct Ended {
+    pub answer: Answer,
     pub change: Change,
 }
 

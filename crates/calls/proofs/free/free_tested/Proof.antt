@@ -2,6 +2,7 @@
 -- Assumes nothing.
 use Prim.Native.Nat.{ℕ, _+_}
 use native.Mathlib.Omega.{arith}
+use denote.Ref.{now}
 use mathlib.Core.Bool.{true, false}
 use mathlib.Core.List.{List, [], _∷_}
 use mathlib.Core.Path.{_≡_, refl, sym, _∙_, ap}
@@ -9,13 +10,13 @@ use Rattle.rounding.specs.Round.{roundUp}
 use Rattle.rounding.proofs.Powers.{power-positive}
 use Rattle.rounding.proofs.Tests.{taken-false, left-true}
 use Rattle.arena.specs.declared.Chunk.{Chunk}
-use Rattle.arena.specs.Record.{heldOf, holding}
-use Rattle.arena.specs.Inner.{movedTo}
+use Rattle.arena.specs.Record.{recordOf, heldOf, holding}
+use Rattle.arena.specs.Inner.{movedTo, changedBy}
 use Rattle.arena.proofs.Soundness.{sound-open}
 use Rattle.arena.proofs.View.{holding-held}
 use Rattle.calls.specs.Allocate.{atPointer}
 use Rattle.calls.specs.Free.{freed}
-use Rattle.calls.proofs.Pointing.{at-pointer-held}
+use borrow.Author.Needs.{needs}
 use Rattle.calls.proofs.free.free_tested.Statement.{statement}
 use Rattle.calls.proofs.free.free_tested.Tie as tie
 
@@ -38,54 +39,37 @@ module _ (minimum : ℕ) (cs : List Chunk) (offset size : ℕ) where
       go (c ∷ ds) t = rw t
 
 is-at-pointer-requires : tie.Need-is-at-pointer-requires
-is-at-pointer-requires c κs = sound-open _ (c .before .before .before .before .before .pre .0) .head .count-bound
+is-at-pointer-requires c κs = sound-open _ (c .pre .0) .head .count-bound
 
 returns : tie.Need-returns
+unfolding changedBy
 returns c =
-    let s = c .before .before .before .before .before .before .before in
-    let a = s .args .t1 in
+    let s = c .before .before in
+    let a = recordOf (s .args .h) (now (s .args .starts)) (now (s .args .sizes)) (now (s .args .pointers)) in
     let elsewhere = taken-false (c .before .is-at-pointer .ensures) (c .if1 .taken) in
     sym
     (ap (holding (a .head)) (freed-elsewhere (a .head .minimum) (heldOf a) (s .args .offset) (s .args .size) elsewhere)
     ∙ holding-held (sound-open a (s .pre .0)))
 
--- the block is at the current pointer
-there : (c : tie.Else1) →
-    let s = c .before .before .before .before .before .before .before in
-    atPointer (heldOf (s .args .t1)) (s .args .offset) ≡ true
-there c = left-true (c .before .is-at-pointer .ensures) (c .if1 .left)
-
 add-round-up-to : tie.Need-add-round-up-to
-add-round-up-to c =
-    let s = c .before .before .before .before .before .before .before in
-    omega (arith, s .pre .1, sound-open _ (s .pre .0) .head .region-bound)
+add-round-up-to c = omega (arith, c .before .before .pre .1, sound-open _ (c .before .before .pre .0) .head .region-bound)
 
 round-up-to-requires : tie.Need-round-up-to-requires
 round-up-to-requires c κs =
-    let s = c .before .before .before .before .before .before .before in
+    let s = c .before .before in
     let head = sound-open _ (s .pre .0) .head in
     (power-positive (head .minimum-power), omega (arith, s .pre .1, head .region-bound, head .minimum-bound))
 
-with-pointer-requires : tie.Need-with-pointer-requires
-with-pointer-requires c κs =
-    let s = c .before .before .before .before .before .before .before .before in
-    (s .pre .0, at-pointer-held (s .args .t1) (s .args .offset) (there (c .before)))
-
 returns-2 : tie.Need-returns-2
+unfolding changedBy
 returns-2 c =
-    let s = c .before .before .before .before .before .before .before .before .before in
-    let a = s .args .t1 in
-    c .with-pointer .ensures
-    ∙ ap (λ (p : ℕ). holding (a .head) (movedTo (heldOf a) p)) (c .before .round-up-to .ensures)
-    ∙ sym (ap (holding (a .head)) (freed-there (a .head .minimum) (heldOf a) (s .args .offset) (s .args .size) (there (c .before .before))))
+    let s = c .before .before .before in
+    let a = recordOf (s .args .h) (now (s .args .starts)) (now (s .args .sizes)) (now (s .args .pointers)) in
+    let there = left-true (c .before .before .is-at-pointer .ensures) (c .before .if1 .left) in
+    ap (λ (p : ℕ). holding (a .head) (movedTo (heldOf a) p)) (c .round-up-to .ensures)
+    ∙ sym (ap (holding (a .head)) (freed-there (a .head .minimum) (heldOf a) (s .args .offset) (s .args .size) there))
 
 pub free-tested-spec : {M : Type 1} → statement M
 free-tested-spec =
     tie.close
-    (tie.spec
-    is-at-pointer-requires
-    returns
-    add-round-up-to
-    round-up-to-requires
-    with-pointer-requires
-    returns-2)
+    (tie.spec is-at-pointer-requires returns add-round-up-to round-up-to-requires returns-2)

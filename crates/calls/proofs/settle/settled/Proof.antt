@@ -1,7 +1,7 @@
--- `calls::allocate::settled` meets its contract. Assumes nothing.
+-- `calls::settle::settled` meets its contract. Assumes nothing.
 use borrow.Author.Needs.{needs}
-use Rattle.calls.proofs.allocate.settled.Statement.{statement}
-use Rattle.calls.proofs.allocate.settled.Tie as tie
+use Rattle.calls.proofs.settle.settled.Statement.{statement}
+use Rattle.calls.proofs.settle.settled.Tie as tie
 
 changed-requires : tie.Need-changed-requires
 changed-requires c κs = search needs
