@@ -14,11 +14,15 @@ use Rattle.arena.specs.declared.change.Change.the-variants.{Same, Moved, Added}
 use Rattle.arena.specs.Numbers.{places}
 use Rattle.arena.specs.Record.{heldOf}
 use Rattle.arena.specs.Inner.{movedTo, changedBy}
+use Rattle.arena.specs.Sound.{soundOf}
+use Rattle.arena.proofs.Soundness.{sound-open}
+use Rattle.arena.proofs.View.{holding-held}
 use Rattle.calls.specs.declared.Given.the-variants.{At, Refused}
 use Rattle.calls.specs.declared.Placed.{Placed}
 use Rattle.calls.specs.declared.Ended.{Ended}
 use Rattle.calls.specs.Allocate.{Taken, given}
 use Rattle.calls.specs.Inner.{placedOf, endedOf}
+use Rattle.calls.specs.Shrink.{stays}
 
 module _ (a : Arena) where
   -- a refusal, and that of a request that the rules serve nothing for
@@ -35,6 +39,13 @@ module _ (a : Arena) where
       endedOf a ended ≡ record { answer = Refused·answer r; arena = a }
   unfolding changedBy
   ended-refused e = ap (endedOf a) e
+
+  -- the block that it was, in the record that it was
+  pub placed-stays : {p : ℕ} {placed : Placed} {t : Option Taken} → soundOf a ≡ true → placed ≡ record { answer = At p; change = Same } →
+      t ≡ stays (heldOf a) p → placedOf a placed ≡ given none a t
+  unfolding changedBy given
+  placed-stays {p} s e f =
+      ap (placedOf a) e ∙ (λ i. record { answer = At p; arena = sym (holding-held (sound-open a s)) i }) ∙ sym (ap (given none a) f)
 
   -- the current chunk's block, and a new chunk's
   pub placed-moved : {p : ℕ} {t : Option Taken} → t ≡ some (record { offset = p; chunks = movedTo (heldOf a) p }) →

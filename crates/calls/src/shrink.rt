@@ -4,32 +4,37 @@ ghost use mathlib.Core.Bool.{true};
 ghost use mathlib.Core.Option.{none};
 ghost use Prim.Native.Nat.{_+_, _≤_};
 ghost use lib.ListN.{length};
-ghost use Rattle.arena.specs.Record.{heldOf};
+ghost use Rattle.arena.specs.Record.{recordOf, heldOf};
 ghost use Rattle.arena.specs.Sound.{soundOf};
+ghost use Rattle.arena.specs.declared.change.Change.the-variants.{Same};
+ghost use Rattle.calls.specs.declared.Given.the-variants.{At};
 ghost use Rattle.calls.specs.Allocate.{given};
-ghost use Rattle.calls.specs.Shrink.{stays, shrunkInPlace, shrinkIn, shrinkOf, shrinkBytes};
-ghost use Rattle.calls.specs.Inner.{ShrinkTested};
+ghost use Rattle.calls.specs.Shrink.{shrunkInPlace, shrinkIn, shrinkOf, shrinkBytes};
+ghost use Rattle.calls.specs.Inner.{PlacedBy, ShrinkTested};
 use crate::Allocation;
 use crate::Given;
-use crate::allocate::allocate_tested;
+use crate::Placed;
+use crate::allocate::placed_tested;
 use crate::allocate::refused;
 use crate::block::is_at_pointer;
 use crate::bytes::carry;
 use crate::refusals::change_answer;
 use crate::refusals::lent_answer;
+use crate::settle::nowhere;
+use crate::settle::settled;
 use arena::Answer;
 use arena::Arena;
+use arena::Head;
+use arena::change::Change;
 use arena::sizing::larger;
-use arena::table::with_pointer;
 
 // The block keeps its offset, and the record stays as it is.
-fn stay(a: Arena, offset: usize) -> Allocation
-    requires { ⌜ soundOf a ≡ true ⌝ }
-    ensures { λ r. ⌜ r ≡ given none a (stays (heldOf a) offset) ⌝ }
+fn stay(offset: usize) -> Placed
+    ensures { λ r. ⌜ r ≡ record { answer = At offset; change = Same } ⌝ }
 {
-    Allocation {
+    Placed {
         answer: Given::At(offset),
-        arena: a,
+        change: Change::Same,
     }
 }
 
@@ -40,47 +45,96 @@ fn stay(a: Arena, offset: usize) -> Allocation
 //     after                               [ kept . . . ]  .
 //
 // For that d has to be half of the old bytes, rounded up: from 5 bytes to 3, d is 2, and the 3 kept bytes would overlap.
-fn shrunk_in_place(a: Arena, offset: usize, old: usize, d: usize) -> Allocation
-    requires { ⌜ (soundOf a ≡ true) × (offset + old ≤ a .head .region) × (d ≤ old) ⌝ }
-    ensures { λ r. ⌜ r ≡ given none a (shrunkInPlace (heldOf a) offset old d) ⌝ }
+fn shrunk_in_place<'a>(
+    h: Head,
+    starts: &'a [usize; 32],
+    sizes: &'a [usize; 32],
+    pointers: &'a [usize; 32],
+    offset: usize,
+    old: usize,
+    d: usize,
+) -> Placed
+    requires { ⌜ (soundOf (recordOf h (now starts) (now sizes) (now pointers)) ≡ true) × (offset + old ≤ h .region) × (d ≤ old) ⌝ }
+    ensures { λ r. ⌜ PlacedBy (λ a. given none a (shrunkInPlace (heldOf a) offset old d)) (recordOf h (now (starts .entry)) (now (sizes .entry)) (now (pointers .entry))) r ⌝ }
 {
-    if !is_at_pointer(a.head, &a.starts, &a.sizes, &a.pointers, offset) {
-        return stay(a, offset);
+    if !is_at_pointer(h, starts, sizes, pointers, offset) {
+        return stay(offset);
     }
     if d < (old + 1) / 2 {
-        return stay(a, offset);
+        return stay(offset);
     }
     let to = offset + d;
-    let moved = with_pointer(a, to);
-    Allocation {
+    Placed {
         answer: Given::At(to),
-        arena: moved,
+        change: Change::Moved(to),
     }
 }
 
 // Where the shrunk block stands; no byte is carried yet.
-pub fn shrunk_block(
-    a: Arena,
+pub fn shrunk_block<'a>(
+    h: Head,
+    starts: &'a [usize; 32],
+    sizes: &'a [usize; 32],
+    pointers: &'a [usize; 32],
     offset: usize,
     old: usize,
     old_align: usize,
     new: usize,
     new_align: usize,
-) -> Allocation
-    requires { ⌜ ShrinkTested a offset old new «new_align» ⌝ }
-    ensures { λ r. ⌜ r ≡ given none a (shrinkIn (a .head) (heldOf a) offset old «old_align» new «new_align») ⌝ }
+) -> Placed
+    requires { ⌜ ShrinkTested (recordOf h (now starts) (now sizes) (now pointers)) offset old new «new_align» ⌝ }
+    ensures { λ r. ⌜ PlacedBy (λ a. given none a (shrinkIn (a .head) (heldOf a) offset old «old_align» new «new_align»)) (recordOf h (now (starts .entry)) (now (sizes .entry)) (now (pointers .entry))) r ⌝ }
 {
     if new_align <= old_align {
-        let d = rounding::round_down_to(old - new, larger(new_align, a.head.minimum));
-        return shrunk_in_place(a, offset, old, d);
+        let d = rounding::round_down_to(old - new, larger(new_align, h.minimum));
+        return shrunk_in_place(h, starts, sizes, pointers, offset, old, d);
     }
     if rounding::is_multiple(offset, new_align) {
-        return stay(a, offset);
+        return stay(offset);
     }
-    allocate_tested(a, new, new_align)
+    placed_tested(h, starts, sizes, pointers, new, new_align)
 }
 
 // On a record that is known to be sound, lent its own region.
+pub fn shrink_placed<'a>(
+    h: Head,
+    starts: &'a [usize; 32],
+    sizes: &'a [usize; 32],
+    pointers: &'a [usize; 32],
+    region: &mut [u8],
+    offset: usize,
+    old: usize,
+    old_align: usize,
+    new: usize,
+    new_align: usize,
+) -> Placed
+    requires { ⌜ (soundOf (recordOf h (now starts) (now sizes) (now pointers)) ≡ true) × (length (now region) ≡ h .region) ⌝ }
+    ensures { λ r. ⌜ PlacedBy (λ a. shrinkOf a (length (now (region .entry))) offset old «old_align» new «new_align») (recordOf h (now (starts .entry)) (now (sizes .entry)) (now (pointers .entry))) r ⌝ }
+    ensures { λ r. ⌜ now (region .exit) ≡ shrinkBytes (recordOf h (now (starts .entry)) (now (sizes .entry)) (now (pointers .entry))) (now (region .entry)) offset old «old_align» new «new_align» ⌝ }
+{
+    if let Answer::Refused(r) = change_answer(
+        h,
+        starts,
+        sizes,
+        pointers,
+        offset,
+        old,
+        old_align,
+        new,
+        new_align,
+        old < new,
+    ) {
+        return nowhere(r);
+    }
+    let got = shrunk_block(h, starts, sizes, pointers, offset, old, old_align, new, new_align);
+    let answer = got.answer;
+    let Given::At(to) = answer else {
+        return got;
+    };
+    carry(region, offset, to, new);
+    got
+}
+
 pub fn shrink_sound(
     a: Arena,
     region: &mut [u8],
@@ -94,27 +148,19 @@ pub fn shrink_sound(
     ensures { λ r. ⌜ r ≡ shrinkOf a (length (now (region .entry))) offset old «old_align» new «new_align» ⌝ }
     ensures { λ r. ⌜ now (region .exit) ≡ shrinkBytes a (now (region .entry)) offset old «old_align» new «new_align» ⌝ }
 {
-    if let Answer::Refused(r) = change_answer(
+    let placed = shrink_placed(
         a.head,
         &a.starts,
         &a.sizes,
         &a.pointers,
+        region,
         offset,
         old,
         old_align,
         new,
         new_align,
-        old < new,
-    ) {
-        return refused(a, r);
-    }
-    let got = shrunk_block(a, offset, old, old_align, new, new_align);
-    let answer = got.answer;
-    let Given::At(to) = answer else {
-        return got;
-    };
-    carry(region, offset, to, new);
-    got
+    );
+    settled(a, placed)
 }
 
 pub fn shrink(

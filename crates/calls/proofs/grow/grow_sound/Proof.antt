@@ -1,141 +1,20 @@
--- `calls::grow::grow_sound` meets its contract: a refusal changes no byte, and a served grow carries the old bytes to a block that lies in the region.
--- Assumes nothing.
-use Prim.Native.Nat.{ℕ}
-use native.Mathlib.Omega.{arith}
-use mathlib.Core.Option.{none}
-use mathlib.Core.Path.{_≡_, sym, _∙_, ap}
-use lib.Dec.{ltb}
-use lib.ListN.{length}
-use Rattle.arena.specs.Record.{heldOf}
-use Rattle.arena.specs.Refusals.{refusedBy}
-use Rattle.calls.specs.declared.Allocation.{Allocation}
-use Rattle.calls.specs.Allocate.{given}
-use Rattle.calls.specs.Bytes.{carried, afterGiven}
-use Rattle.calls.specs.Grow.{growIn, growTests, growOf, growBytes}
-use Rattle.calls.specs.Inner.{lentTests, changeTests}
-use Rattle.calls.proofs.Answering.{stopped-later, bytes-shown}
-use Rattle.calls.proofs.Changing.{lent-own, grow-tested, grow-served}
-use Rattle.calls.proofs.Passing.{grow-passes}
-use Rattle.calls.proofs.Testing.{passed-before, tests-refuse, tests-pass}
+-- `calls::grow::grow_sound` meets its contract: the lent form's, with its change made. Assumes nothing.
+use mathlib.Core.Path.{_∙_}
 use borrow.Author.Needs.{needs}
 use Rattle.calls.proofs.grow.grow_sound.Statement.{statement}
 use Rattle.calls.proofs.grow.grow_sound.Tie as tie
 
--- where the function begins, from the answer of the tests
-abbrev start : tie.After-change-answer → tie.Start
-start t = t .before .before .before .before .before .before .before
+grow-placed-requires : tie.Need-grow-placed-requires
+grow-placed-requires c κs = search needs
 
-change-answer-requires : tie.Need-change-answer-requires
-change-answer-requires c κs = c .before .before .before .before .before .before .pre .0
-
-enum-known-r : tie.Need-enum-known-r
-enum-known-r c = search needs
-
-refused-requires : tie.Need-refused-requires
-refused-requires c κs = search needs
-
--- a refusal of the tests
-stopped : (c : tie.After-refused) →
-    let s = start (c .before .before .before .before) .args in
-    c .refused .result ≡ growOf (s .t1) (length (s .region .now)) (s .offset) (s .old) (s .old-align) (s .new) (s .new-align)
-unfolding growOf
-stopped c =
-    let t = c .before .before .before .before in
-    let e = start t in
-    let s = e .args in
-    c .refused .ensures
-    ∙ sym
-    (stopped-later (s .t1) (lentTests (s .t1) (length (s .region .now))) (changeTests (s .t1) (s .offset) (s .old) (s .old-align) (s .new) (s .new-align) (ltb (s .new) (s .old)))
-    (growIn (s .t1 .head) (heldOf (s .t1)) (s .offset) (s .old) (s .old-align) (s .new) (s .new-align))
-    (lent-own (s .t1) (e .pre .0) (e .pre .1)) (tests-refuse _ (sym (c .before .before .r .given .1) ∙ t .change-answer .ensures)))
-
-returns : tie.Need-returns
-unfolding growBytes given afterGiven
-returns c =
-    let s = start (c .before .before .before .before) .args in (
-      stopped c,
-      bytes-shown (λ (to : ℕ). carried (s .region .now) (s .offset) to (s .old)) (s .region .now) (stopped c) (ap (λ (o : Allocation). o .answer) (c .refused .ensures)),
-    )
-
-enum-told : tie.Need-enum-told
-enum-told c = search needs
-
--- no test refuses
-passed : (c : tie.After-enum-told) →
-    let s = start (c .before .before) .args in
-    refusedBy (growTests (s .t1) (length (s .region .now)) (s .offset) (s .old) (s .old-align) (s .new) (s .new-align)) ≡ none
-passed c =
-    let e = start (c .before .before) in
-    let s = e .args in
-    passed-before (lentTests (s .t1) (length (s .region .now)))
-    (changeTests (s .t1) (s .offset) (s .old) (s .old-align) (s .new) (s .new-align) (ltb (s .new) (s .old)))
-    (lent-own (s .t1) (e .pre .0) (e .pre .1))
-    ∙ tests-pass _ (sym (c .enum-told .given .1) ∙ c .before .before .change-answer .ensures)
-
-grown-block-requires : tie.Need-grown-block-requires
-grown-block-requires c κs =
-    let s = start (c .before .before) .args in
-    grow-tested (grow-passes (s .t1) (length (s .region .now)) (s .offset) (s .old) (s .old-align) (s .new) (s .new-align) (passed c))
-
--- the block's place, or ROOM, is what the definition answers
-answered : (c : tie.After-grown-block) →
-    let s = start (c .before .before .before) .args in
-    c .grown-block .result ≡ growOf (s .t1) (length (s .region .now)) (s .offset) (s .old) (s .old-align) (s .new) (s .new-align)
-unfolding growOf
-answered c =
-    let s = start (c .before .before .before) .args in
-    c .grown-block .ensures
-    ∙ sym
-    (ap (λ o. given o (s .t1) (growIn (s .t1 .head) (heldOf (s .t1)) (s .offset) (s .old) (s .old-align) (s .new) (s .new-align))) (passed (c .before)))
-
-enum-known-answer : tie.Need-enum-known-answer
-enum-known-answer c = search needs
-
-enum-told-2 : tie.Need-enum-told-2
-enum-told-2 c = search needs
-
-returns-2 : tie.Need-returns-2
-unfolding growBytes afterGiven
-returns-2 c =
-    let g = c .before .before in
-    let s = start (g .before .before .before) .args in
-    (answered g, bytes-shown (λ (to : ℕ). carried (s .region .now) (s .offset) to (s .old)) (s .region .now) (answered g) (c .enum-told2 .given .1))
-
-carry-requires : tie.Need-carry-requires
-carry-requires c κs =
-    let g = c .before .before .before .before in
-    let s = start (g .before .before .before) .args in
-    let (is, up) =
-    grow-served (s .t1) (length (s .region .now)) (s .offset) (s .old) (s .old-align) (s .new) (s .new-align)
-    (sym (ap (λ (o : Allocation). o .answer) (answered g)) ∙ c .before .before .answer .given .1) in
-    (omega (arith, is .source), omega (arith, is .room))
+settled-requires : tie.Need-settled-requires
+settled-requires c κs = search needs
 
 same-length : tie.Need-same-length
 same-length c = search needs
 
-returns-3 : tie.Need-returns-3
-unfolding growBytes afterGiven
-returns-3 c =
-    let g = c .before .before .before .before .before .before .before in
-    let s = start (g .before .before .before) .args in (
-      answered g,
-      c .before .before .carry .ensures
-          ∙ bytes-shown (λ (to : ℕ). carried (s .region .now) (s .offset) to (s .old)) (s .region .now) (answered g) (c .before .before .before .before .before .answer .given .1),
-    )
+returns : tie.Need-returns
+returns c = (c .settled .ensures ∙ c .before .before .before .grow-placed .ensures .0, c .before .before .before .grow-placed .ensures .1)
 
 pub grow-sound-spec : {M : Type 1} → statement M
-grow-sound-spec =
-    tie.close
-    (tie.spec
-    change-answer-requires
-    enum-known-r
-    refused-requires
-    returns
-    enum-told
-    grown-block-requires
-    enum-known-answer
-    enum-told-2
-    returns-2
-    carry-requires
-    same-length
-    returns-3)
+grow-sound-spec = tie.close (tie.spec grow-placed-requires settled-requires same-length returns)

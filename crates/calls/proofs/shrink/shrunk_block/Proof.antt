@@ -2,19 +2,26 @@
 use Prim.Native.Nat.{ℕ, _-_}
 use native.Mathlib.Omega.{arith}
 use native.Mathlib.Nat.{le-max-left}
+use denote.Ref.{now}
 use mathlib.Core.Option.{none}
 use mathlib.Core.Path.{_≡_, sym, _∙_, ap}
 use Rattle.rounding.specs.Round.{roundDown}
 use Rattle.rounding.proofs.Powers.{power-positive}
 use Rattle.rounding.proofs.Rounding.{down-at-most}
-use Rattle.arena.specs.Record.{heldOf}
+use Rattle.arena.specs.declared.Arena.{Arena}
+use Rattle.arena.specs.Record.{recordOf, heldOf}
 use Rattle.arena.proofs.Soundness.{align-open}
 use Rattle.calls.specs.Allocate.{given}
 use Rattle.calls.specs.Shrink.{givenUp, shrunkInPlace}
+use Rattle.calls.proofs.Placing.{placed-stays}
 use Rattle.calls.proofs.Shrinking.{shrinks-in-place, shrinks-aligned, shrinks-afresh}
 use borrow.Author.Needs.{needs}
 use Rattle.calls.proofs.shrink.shrunk_block.Statement.{statement}
 use Rattle.calls.proofs.shrink.shrunk_block.Tie as tie
+
+-- the record that is lent
+abbrev own : tie.Start → Arena
+own e = recordOf (e .args .h) (now (e .args .starts)) (now (e .args .sizes)) (now (e .args .pointers))
 
 sub-round-down-to : tie.Need-sub-round-down-to
 sub-round-down-to c = search needs
@@ -26,7 +33,7 @@ round-down-to-requires : tie.Need-round-down-to-requires
 round-down-to-requires c κs =
     let s = c .before .before in
     let positive = power-positive (align-open (s .args .new-align) (s .pre .request .align-allowed) .power) in
-    omega (arith, c .larger .ensures, le-max-left (s .args .new-align) (s .args .a .head .minimum), positive)
+    omega (arith, c .larger .ensures, le-max-left (s .args .new-align) (s .args .h .minimum), positive)
 
 shrunk-in-place-requires : tie.Need-shrunk-in-place-requires
 shrunk-in-place-requires c κs =
@@ -39,12 +46,13 @@ shrunk-in-place-requires c κs =
 returns : tie.Need-returns
 returns c =
     let r = c .before in
-    let s = r .before .before .before .args in
-    let up : r .round-down-to .result ≡ givenUp (s .a .head .minimum) (s .old) (s .new) (s .new-align) =
+    let b = r .before .before .before in
+    let s = b .args in
+    let up : r .round-down-to .result ≡ givenUp (own b .head .minimum) (s .old) (s .new) (s .new-align) =
     r .round-down-to .ensures ∙ ap (roundDown (s .old - s .new)) (r .before .larger .ensures) in
     c .shrunk-in-place .ensures
-    ∙ ap (λ (d : ℕ). given none (s .a) (shrunkInPlace (heldOf (s .a)) (s .offset) (s .old) d)) up
-    ∙ sym (ap (given none (s .a)) (shrinks-in-place (s .a .head) (heldOf (s .a)) (s .offset) (s .old) (s .old-align) (s .new) (s .new-align) (r .before .before .if1 .taken)))
+    ∙ ap (λ (d : ℕ). given none (own b) (shrunkInPlace (heldOf (own b)) (s .offset) (s .old) d)) up
+    ∙ sym (ap (given none (own b)) (shrinks-in-place (own b .head) (heldOf (own b)) (s .offset) (s .old) (s .old-align) (s .new) (s .new-align) (r .before .before .if1 .taken)))
 
 is-multiple-requires : tie.Need-is-multiple-requires
 is-multiple-requires c κs = search needs
@@ -55,24 +63,24 @@ stay-requires c κs = search needs
 returns-2 : tie.Need-returns-2
 returns-2 c =
     let m = c .before .before in
-    let s = m .before .before .args in
-    c .stay .ensures
-    ∙ sym
-    (ap (given none (s .a))
-    (shrinks-aligned (s .a .head) (heldOf (s .a)) (s .offset) (s .old) (s .old-align) (s .new) (s .new-align) (m .before .if1 .left)
-    (sym (m .is-multiple .ensures) ∙ c .before .if2 .taken)))
+    let b = m .before .before in
+    let s = b .args in
+    placed-stays (own b) (b .pre .request .sound) (c .stay .ensures)
+        (shrinks-aligned (own b .head) (heldOf (own b)) (s .offset) (s .old) (s .old-align) (s .new) (s .new-align) (m .before .if1 .left)
+        (sym (m .is-multiple .ensures) ∙ c .before .if2 .taken))
 
-allocate-tested-requires : tie.Need-allocate-tested-requires
-allocate-tested-requires c κs = search needs
+placed-tested-requires : tie.Need-placed-tested-requires
+placed-tested-requires c κs = search needs
 
 returns-3 : tie.Need-returns-3
 returns-3 c =
     let m = c .before .before in
-    let s = m .before .before .args in
-    c .allocate-tested .ensures
+    let b = m .before .before in
+    let s = b .args in
+    c .placed-tested .ensures
     ∙ sym
-    (ap (given none (s .a))
-    (shrinks-afresh (s .a .head) (heldOf (s .a)) (s .offset) (s .old) (s .old-align) (s .new) (s .new-align) (m .before .if1 .left)
+    (ap (given none (own b))
+    (shrinks-afresh (own b .head) (heldOf (own b)) (s .offset) (s .old) (s .old-align) (s .new) (s .new-align) (m .before .if1 .left)
     (sym (m .is-multiple .ensures) ∙ c .before .if2 .left)))
 
 pub shrunk-block-spec : {M : Type 1} → statement M
@@ -87,5 +95,5 @@ shrunk-block-spec =
     is-multiple-requires
     stay-requires
     returns-2
-    allocate-tested-requires
+    placed-tested-requires
     returns-3)
