@@ -1,19 +1,21 @@
 -- A change of a sound record is made by writing at the last held place, or at the first unused one. Assumes nothing.
 use Prim.Native.Nat.{ℕ, _+_, _-_, _≤_, _<_}
-use mathlib.Core.Bool.{cond}
 use mathlib.Core.List.{List, []}
 use mathlib.Core.Path.{_≡_, sym, _∙_, ap}
-use lib.ListN.{set}
+use lib.ListN.{replicate, set}
+use native.Mathlib.Omega.{arith}
 use borrow.Author.Tests.{le-leb, lt-leb}
 use Rattle.arena.specs.declared.Arena.{Arena}
 use Rattle.arena.specs.declared.Chunk.{Chunk}
 use Rattle.arena.specs.declared.change.Change.{Change}
-use Rattle.arena.specs.declared.change.Change.the-variants.{Same, Moved, Added}
-use Rattle.arena.specs.Numbers.{places}
-use Rattle.arena.specs.Record.{recordOf, chunksOf, heldOf, holding}
+use Rattle.arena.specs.declared.change.Change.the-variants.{Same, Moved, Added, Limited, Kept}
+use Rattle.rounding.proofs.Every.{every-map}
+use Rattle.arena.specs.Numbers.{places, most}
+use Rattle.arena.specs.Record.{endOf, recordOf, chunkAt, chunksOf, heldOf, column, holding}
+use Rattle.arena.specs.Creation.{limitedTo, keptByReset}
 use Rattle.arena.specs.Inner.{movedTo, changedBy}
 use Rattle.arena.proofs.Soundness.{Sound}
-use Rattle.arena.proofs.View.{withCount, chunks-newest, holding-held, holding-taken, holding-moved}
+use Rattle.arena.proofs.View.{withCount, chunks-at, chunks-newest, holding-held, holding-taken, holding-moved}
 
 module _ {a : Arena} (s : Sound a) {change : Change} where
   pub stays-same : change ≡ Same → a ≡ changedBy change a
@@ -50,3 +52,37 @@ module _ {a : Arena} (s : Sound a) {change : Change} where
       ≡ changedBy change a
   unfolding changedBy
   adds {c} e l = rw (e, lt-leb places (a .head .count) l) (sym (holding-taken s c))
+
+  pub limits : {limited limit : ℕ} → change ≡ Limited limited limit → limitedTo a limited limit ≡ changedBy change a
+  unfolding changedBy
+  limits e = rw e
+
+  pub keeps : {b : Arena} → change ≡ Kept → b ≡ holding (a .head) (keptByReset (heldOf a)) → b ≡ changedBy change a
+  unfolding changedBy
+  keeps e k = rw e k
+
+module _ {a : Arena} (s : Sound a) where
+  -- with no chunk there is nothing to keep
+  pub keeps-none : a .head .count ≡ 0 → a ≡ holding (a .head) (keptByReset (heldOf a))
+  unfolding keptByReset chunksOf
+  keeps-none none =
+      let empty : heldOf a ≡ [] = ap (chunksOf (a .starts) (a .sizes) (a .pointers)) none in
+      sym
+      (ap (λ (cs : List Chunk). holding (a .head) (keptByReset cs)) empty
+      ∙ sym (ap (holding (a .head)) empty)
+      ∙ holding-held s)
+
+  -- the current chunk goes to the first place, and the others are emptied
+  pub keeps-current : 0 < a .head .count →
+      let c = chunkAt (a .starts) (a .sizes) (a .pointers) (a .head .count - 1) in
+      recordOf (withCount (a .head) 1) (set (replicate places 0) 0 (c .start)) (set (replicate places 0) 0 (c .size)) (set (replicate places 0) 0 (endOf c))
+      ≡ holding (a .head) (keptByReset (heldOf a))
+  unfolding keptByReset holding column
+  keeps-current l =
+      sym (ap (λ (cs : List Chunk). holding (a .head) (keptByReset cs)) (chunks-newest (a .starts) (a .sizes) (a .pointers) (a .head .count) l))
+
+  -- its end is a number
+  pub current-ends : 0 < a .head .count → endOf (chunkAt (a .starts) (a .sizes) (a .pointers) (a .head .count - 1)) ≤ most
+  current-ends l =
+      chunks-at (a .starts) (a .sizes) (a .pointers) (λ d. endOf d ≤ most) {i = a .head .count - 1} {k = a .head .count} (omega arith)
+      (every-map (λ d k. omega (arith, k .inside, s .head .region-bound)) (heldOf a) (s .chunks))

@@ -1,12 +1,12 @@
 -- The record with no chunk: sound wherever its settings are, and a chunk taken in it is the only one. Assumes nothing.
-use Prim.Native.Nat.{ℕ, _≤_, zero-le}
+use Prim.Native.Nat.{zero-le}
 use mathlib.Core.Bool.{true}
 use mathlib.Core.List.{List, [], _∷_}
-use mathlib.Core.Path.{_≡_, refl, _∙_, ap}
+use mathlib.Core.Path.{_≡_, _∙_, ap}
 use Rattle.arena.specs.declared.Head.{Head}
 use Rattle.arena.specs.declared.Arena.{Arena}
 use Rattle.arena.specs.declared.Chunk.{Chunk}
-use Rattle.arena.specs.Record.{heldOf, column, holding}
+use Rattle.arena.specs.Record.{heldOf, holding}
 use Rattle.arena.specs.Sound.{soundOf}
 use Rattle.arena.proofs.Soundness.{Settings, sound-shut}
 use Rattle.arena.proofs.View.{held-holding, holding-sound}

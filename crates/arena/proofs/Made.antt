@@ -1,15 +1,13 @@
 -- What creation comes to, clause by clause of its definition. Assumes nothing.
 use Prim.Native.Nat.{ℕ, _≤_, _<_}
-use native.Mathlib.Omega.{arith}
-use mathlib.Core.Bool.{true, false, cond}
-use mathlib.Core.List.{List, [], _∷_}
+use mathlib.Core.Bool.{true, false}
+use mathlib.Core.List.{[], _∷_}
 use mathlib.Core.Option.{Option, none, some, Option·map}
-use mathlib.Core.Path.{_≡_, refl, sym, _∙_, ap}
-use borrow.Author.Tests.{lt-ltb, le-ltb, eq-eqb, ne-eqb}
+use mathlib.Core.Path.{_≡_, refl, _∙_, ap}
+use borrow.Author.Tests.{lt-ltb, le-ltb, ne-eqb}
 use Rattle.rounding.proofs.Tests.{true-not, false-not}
 use Rattle.arena.specs.declared.Chunk.{Chunk}
 use Rattle.arena.specs.declared.Answer.the-variants.{Done}
-use Rattle.arena.specs.declared.Outcome.{Outcome}
 use Rattle.arena.specs.declared.Refusal.{Refusal}
 use Rattle.arena.specs.declared.Refusal.the-variants.{Region, Size, Align, Room}
 use Rattle.arena.specs.Numbers.{most, defaultSize}

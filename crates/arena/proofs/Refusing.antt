@@ -6,7 +6,7 @@ use native.Mathlib.Omega.{arith}
 use mathlib.Core.Bool.{Bool, true, false}
 use lib.Dec.{ltb}
 use mathlib.Core.List.{List, [], _∷_}
-use mathlib.Core.Option.{Option, none, some, Option·none-ne-some, Option·some-injective}
+use mathlib.Core.Option.{none, some, Option·none-ne-some, Option·some-injective}
 use mathlib.Core.Path.{_≡_, refl, sym, _∙_, ap}
 use borrow.Author.Tests.{ltb-true}
 use Rattle.rounding.specs.Every.{Each}
@@ -14,7 +14,6 @@ use Rattle.rounding.proofs.Every.{every-map}
 use Rattle.rounding.proofs.Tests.{and-left, and-right, true-not, false-not}
 use Rattle.arena.specs.declared.Arena.{Arena}
 use Rattle.arena.specs.declared.Answer.the-variants.{Done, Refused}
-use Rattle.arena.specs.declared.Outcome.{Outcome}
 use Rattle.arena.specs.declared.Refusal.{Refusal}
 use Rattle.arena.specs.declared.Refusal.the-variants.{State}
 use Rattle.arena.specs.Refusals.{numberOf, Test, refusedBy, inOrder, answered}

@@ -4,19 +4,18 @@ use Prim.Native.Nat.{ℕ, zero, suc, _+_, _-_, _*_, _/_, _^_, _≤_, _<_, zero-l
 use native.Mathlib.Nat.{le-trans, le-of-eq, div-one, zero-max, suc-mul, add-sub-of-le, div-eq-of-lt, lt-of-lt-of-le}
 use native.Mathlib.Decide.{decLt}
 use native.Mathlib.Omega.{arith}
-use mathlib.Core.Bool.{Bool, true, false, cond, _&&_, _||_, and-false}
+use mathlib.Core.Bool.{true, false, cond, and-false}
 use mathlib.Core.List.{List, [], _∷_}
 use mathlib.Core.Logic.{_⊎_, inl, inr, ⊎-elim}
 use mathlib.Core.Option.{Option, none, some, Option·none-ne-some, Option·map}
 use mathlib.Core.Path.{_≡_, refl, sym, _∙_, ap}
-use lib.Dec.{leb, ltb, eqb}
+use lib.Dec.{leb, ltb}
 use lib.ListN.{length, getD}
 use lib.Arith.{lt-of-le-ne}
 use lib.Pow.{pow-mono, shr-shr, shr-le}
 use borrow.Author.Count.{below-more}
 use borrow.Author.Tests.{leb-true, le-leb, ltb-true, lt-ltb, le-ltb, eqb-true, eq-eqb, ne-eqb}
 use Rattle.rounding.specs.Every.{Each}
-use Rattle.rounding.specs.First.{first}
 use Rattle.rounding.proofs.First.{FirstAt, first-at, at-first, first-none, none-first}
 use Rattle.rounding.proofs.Tests.{decided, refute, true-false, or-left, or-right, or-cases, and-left, and-right, and-both, false-not}
 use Rattle.arena.specs.declared.Head.{Head}

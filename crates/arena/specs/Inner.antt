@@ -14,13 +14,14 @@ use Rattle.arena.specs.declared.placing.Place.the-variants.{At, Nowhere}
 use Rattle.arena.specs.declared.ladder.NewChunk.{NewChunk}
 use Rattle.arena.specs.declared.ladder.NewChunk.the-variants.{Taken, Nothing}
 use Rattle.arena.specs.declared.change.Change.{Change}
-use Rattle.arena.specs.declared.change.Change.the-variants.{Same, Moved, Added}
+use Rattle.arena.specs.declared.change.Change.the-variants.{Same, Moved, Added, Limited, Kept}
 use Rattle.arena.specs.declared.sound.Row.{Row}
 use Rattle.arena.specs.declared.sound.Row.the-variants.{Unsound, Ascending, Unordered}
 use Rattle.arena.specs.Numbers.{places, most}
 use Rattle.arena.specs.Record.{pastOf, withPointer, heldOf, holding}
 use Rattle.arena.specs.Sound.{chunkSound}
 use Rattle.arena.specs.Placing.{misses}
+use Rattle.arena.specs.Creation.{limitedTo, keptByReset}
 
 -- what the rules that take a new chunk lean on: the region is no longer than allowed, the table no fuller, and every held chunk stands in the
 -- region with its 48
@@ -49,6 +50,8 @@ unfoldable pub changedBy : Change → Arena → Arena
 changedBy Same a = a
 changedBy (Moved p) a = holding (a .head) (movedTo (heldOf a) p)
 changedBy (Added c) a = cond (leb places (a .head .count)) a (holding (a .head) (c ∷ heldOf a))
+changedBy (Limited limited limit) a = limitedTo a limited limit
+changedBy Kept a = holding (a .head) (keptByReset (heldOf a))
 
 -- what going once through the table from an offset comes to: a multiple at or past it, none between them free of the chunks, and the offset
 -- itself only where it is free of them

@@ -5,7 +5,6 @@ use mathlib.Core.List.{List, [], _∷_}
 use mathlib.Core.Option.{Option, none, some}
 use lib.Dec.{ltb}
 use Rattle.arena.specs.declared.Arena.{Arena}
-use Rattle.arena.specs.declared.Answer.{Answer}
 use Rattle.arena.specs.declared.Answer.the-variants.{Done, Refused}
 use Rattle.arena.specs.declared.Outcome.{Outcome}
 use Rattle.arena.specs.declared.Refusal.{Refusal}

@@ -1,5 +1,5 @@
 -- Document 01, "Sound": what every call tests of the record that it is handed. Any 64-bit numbers may stand there.
-use Prim.Native.Nat.{ℕ, _-_}
+use Prim.Native.Nat.{ℕ}
 use mathlib.Core.Bool.{Bool, true, _&&_, _||_, not}
 use mathlib.Core.List.{List, [], _∷_}
 use lib.ListN.{length, drop}

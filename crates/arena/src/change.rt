@@ -8,6 +8,7 @@ ghost use Rattle.arena.specs.Inner.{changedBy};
 use crate::Arena;
 use crate::Chunk;
 use crate::Head;
+use crate::reset::keep_current;
 
 pub enum Change {
     Same,
@@ -15,6 +16,10 @@ pub enum Change {
     Moved(usize),
     // One chunk more, which becomes current.
     Added(Chunk),
+    // Whether there is a limit, and which.
+    Limited(usize, usize),
+    // The current chunk alone, and that whole.
+    Kept,
 }
 
 // In place, on a sound record that is lent in parts; answers its head.
@@ -54,6 +59,14 @@ pub fn make(
                 count: count + 1,
             }
         }
+        Change::Limited(limited, limit) => Head {
+            region: h.region,
+            minimum: h.minimum,
+            limited,
+            limit,
+            count,
+        },
+        Change::Kept => keep_current(h, starts, sizes, pointers),
     }
 }
 

@@ -1,20 +1,13 @@
 // The limit calls (`set_allocation_limit` in the Rust, which takes an option).
 ghost use mathlib.Core.Path.{_≡_};
-ghost use Rattle.arena.specs.Creation.{limitedTo, setLimitOf, noLimitOf};
+ghost use Rattle.arena.specs.Creation.{setLimitOf, noLimitOf};
 use crate::Answer;
 use crate::Arena;
 use crate::Outcome;
 use crate::Refusal;
+use crate::change::Change;
+use crate::change::changed;
 use crate::sound::is_sound;
-
-fn limited_to(a: Arena, limited: usize, limit: usize) -> Arena
-    ensures { λ r. ⌜ r ≡ limitedTo a limited limit ⌝ }
-{
-    let mut out = a;
-    out.head.limited = limited;
-    out.head.limit = limit;
-    out
-}
 
 impl Arena {
     pub fn set_allocation_limit(self, limit: usize) -> Outcome
@@ -26,7 +19,7 @@ impl Arena {
                 arena: self,
             };
         }
-        let changed = limited_to(self, 1, limit);
+        let changed = changed(self, Change::Limited(1, limit));
         Outcome {
             answer: Answer::Done,
             arena: changed,
@@ -42,7 +35,7 @@ impl Arena {
                 arena: self,
             };
         }
-        let changed = limited_to(self, 0, 0);
+        let changed = changed(self, Change::Limited(0, 0));
         Outcome {
             answer: Answer::Done,
             arena: changed,

@@ -1,36 +1,56 @@
 // Reset: only the current chunk is kept, as if nothing had been given out.
 ghost use mathlib.Core.Path.{_≡_};
 ghost use mathlib.Core.Bool.{true};
-ghost use Rattle.arena.specs.Record.{heldOf, holding};
+ghost use Rattle.arena.specs.Record.{recordOf, chunksOf, heldOf, holding};
 ghost use Rattle.arena.specs.Sound.{soundOf};
 ghost use Rattle.arena.specs.Creation.{keptByReset, resetOf};
 use crate::Answer;
 use crate::Arena;
-use crate::Chunk;
+use crate::Head;
 use crate::Outcome;
 use crate::Refusal;
-use crate::creation::emptied;
-use crate::creation::with_chunk;
+use crate::change::Change;
+use crate::change::changed;
 use crate::sound::is_sound;
-use crate::table::chunk_at;
 
-// The work, on a record that is known to be sound.
+// In place, on a sound record that is lent in parts; answers its head.
+pub fn keep_current(
+    h: Head,
+    starts: &mut [usize; 32],
+    sizes: &mut [usize; 32],
+    pointers: &mut [usize; 32],
+) -> Head
+    requires { ⌜ soundOf (recordOf h (now starts) (now sizes) (now pointers)) ≡ true ⌝ }
+    ensures { λ r. ⌜ recordOf r (now (starts .exit)) (now (sizes .exit)) (now (pointers .exit)) ≡ holding h (keptByReset (chunksOf (now (starts .entry)) (now (sizes .entry)) (now (pointers .entry)) (h .count))) ⌝ }
+{
+    let count = h.count;
+    if count == 0 {
+        return h;
+    }
+    let last = count - 1;
+    let start = starts[last];
+    let size = sizes[last];
+    *starts = [0; 32];
+    *sizes = [0; 32];
+    *pointers = [0; 32];
+    starts[0] = start;
+    sizes[0] = size;
+    pointers[0] = start + size;
+    Head {
+        region: h.region,
+        minimum: h.minimum,
+        limited: h.limited,
+        limit: h.limit,
+        count: 1,
+    }
+}
+
+// The same of a record by value.
 pub fn kept_by_reset(a: Arena) -> Arena
     requires { ⌜ soundOf a ≡ true ⌝ }
     ensures { λ r. ⌜ r ≡ holding (a .head) (keptByReset (heldOf a)) ⌝ }
 {
-    let count = a.head.count;
-    let none = emptied(a.head);
-    if count == 0 {
-        return none;
-    }
-    let c = chunk_at(&a.starts, &a.sizes, &a.pointers, count - 1);
-    let whole = Chunk {
-        start: c.start,
-        size: c.size,
-        pointer: c.start + c.size,
-    };
-    with_chunk(none, whole)
+    changed(a, Change::Kept)
 }
 
 impl Arena {

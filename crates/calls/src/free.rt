@@ -76,7 +76,15 @@ pub fn free_sound(a: Arena, offset: usize, size: usize, align: usize) -> Outcome
     requires { ⌜ soundOf a ≡ true ⌝ }
     ensures { λ r. ⌜ r ≡ freeOf a offset size align ⌝ }
 {
-    let ended = free_ended(a.head, &a.starts, &a.sizes, &a.pointers, offset, size, align);
+    let ended = free_ended(
+        a.head,
+        &a.starts,
+        &a.sizes,
+        &a.pointers,
+        offset,
+        size,
+        align,
+    );
     finished(a, ended)
 }
 

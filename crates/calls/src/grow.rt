@@ -73,8 +73,17 @@ pub fn grown_block<'a>(
     requires { ⌜ GrowTested (recordOf h (now starts) (now sizes) (now pointers)) old «old_align» new «new_align» ⌝ }
     ensures { λ r. ⌜ PlacedBy (λ a. given none a (growIn (a .head) (heldOf a) offset old «old_align» new «new_align»)) (recordOf h (now (starts .entry)) (now (sizes .entry)) (now (pointers .entry))) r ⌝ }
 {
-    let Fast::Room(p) = in_place(h, starts, sizes, pointers, offset, old, old_align, new, new_align)
-    else {
+    let Fast::Room(p) = in_place(
+        h,
+        starts,
+        sizes,
+        pointers,
+        offset,
+        old,
+        old_align,
+        new,
+        new_align,
+    ) else {
         return placed_tested(h, starts, sizes, pointers, new, new_align);
     };
     Placed {
@@ -114,7 +123,17 @@ pub fn grow_placed<'a>(
     ) {
         return nowhere(r);
     }
-    let got = grown_block(h, starts, sizes, pointers, offset, old, old_align, new, new_align);
+    let got = grown_block(
+        h,
+        starts,
+        sizes,
+        pointers,
+        offset,
+        old,
+        old_align,
+        new,
+        new_align,
+    );
     let answer = got.answer;
     let Given::At(to) = answer else {
         return got;

@@ -126,7 +126,17 @@ pub fn shrink_placed<'a>(
     ) {
         return nowhere(r);
     }
-    let got = shrunk_block(h, starts, sizes, pointers, offset, old, old_align, new, new_align);
+    let got = shrunk_block(
+        h,
+        starts,
+        sizes,
+        pointers,
+        offset,
+        old,
+        old_align,
+        new,
+        new_align,
+    );
     let answer = got.answer;
     let Given::At(to) = answer else {
         return got;

@@ -2,6 +2,7 @@
 use mathlib.Core.Path.{sym, _∙_}
 use Rattle.rounding.proofs.Tests.{taken-false, left-true}
 use Rattle.arena.specs.declared.Answer.the-variants.{Done}
+use Rattle.arena.specs.Inner.{changedBy}
 use Rattle.arena.specs.Creation.{noLimitOf}
 use Rattle.arena.proofs.Refusing.{unsound-refused, sound-done}
 use borrow.Author.Needs.{needs}
@@ -15,15 +16,15 @@ returns : tie.Need-returns
 unfolding noLimitOf
 returns c = sym (unsound-refused _ _ (taken-false (c .before .is-sound .ensures) (c .if1 .taken)))
 
-limited-to-requires : tie.Need-limited-to-requires
-limited-to-requires c κs = search needs
+changed-requires : tie.Need-changed-requires
+changed-requires c κs = left-true (c .before .is-sound .ensures) (c .if1 .left)
 
 returns-2 : tie.Need-returns-2
-unfolding noLimitOf
+unfolding noLimitOf changedBy
 returns-2 c =
-    (λ i. record { answer = Done; arena = c .limited-to .ensures i })
+    (λ i. record { answer = Done; arena = c .changed .ensures i })
     ∙ sym (sound-done _ _ (left-true (c .before .before .is-sound .ensures) (c .before .if1 .left)))
 
 pub no-allocation-limit-spec : {M : Type 1} → statement M
 no-allocation-limit-spec =
-    tie.close (tie.spec is-sound-requires returns limited-to-requires returns-2)
+    tie.close (tie.spec is-sound-requires returns changed-requires returns-2)

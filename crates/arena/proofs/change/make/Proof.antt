@@ -1,6 +1,6 @@
 -- `arena::change::make` meets its contract: what it writes makes the change. Assumes nothing.
 use native.Mathlib.Omega.{arith}
-use Rattle.arena.proofs.Changing.{stays-same, moves-nowhere, moves, adds-nothing, adds}
+use Rattle.arena.proofs.Changing.{stays-same, moves-nowhere, moves, adds-nothing, adds, limits, keeps}
 use Rattle.arena.proofs.Soundness.{sound-open}
 use borrow.Author.Needs.{needs}
 use Rattle.arena.proofs.change.make.Statement.{statement}
@@ -48,8 +48,17 @@ mul-pointers-2 c = search needs
 element-write-pointers-2 : tie.Need-element-write-pointers-2
 element-write-pointers-2 c = search needs
 
-add-t16 : tie.Need-add-t16
-add-t16 c = search needs
+add-t18 : tie.Need-add-t18
+add-t18 c = search needs
+
+enum-known-change-3 : tie.Need-enum-known-change-3
+enum-known-change-3 c = search needs
+
+enum-told-2 : tie.Need-enum-told-2
+enum-told-2 c = search needs
+
+keep-current-requires : tie.Need-keep-current-requires
+keep-current-requires c κs = search needs
 
 returns-3 : tie.Need-returns-3
 returns-3 c = stays-same (sound-open _ (c .before .before .pre)) (c .enum-told .given .1)
@@ -59,6 +68,12 @@ returns-4 c = moves (sound-open _ (c .before .before .before .before .pre)) (c .
 
 returns-5 : tie.Need-returns-5
 returns-5 c = adds (sound-open _ (c .before .before .before .before .pre)) (c .before .before .change2 .given .1) (omega arith)
+
+returns-6 : tie.Need-returns-6
+returns-6 c = limits (sound-open _ (c .before .before .before .pre)) (c .before .change3 .given .1)
+
+returns-7 : tie.Need-returns-7
+returns-7 c = keeps (sound-open _ (c .before .before .before .before .before .before .pre)) (c .before .before .before .before .enum-told2 .given .1) (c .keep-current .ensures)
 
 pub make-spec : {M : Type 1} → statement M
 make-spec =
@@ -78,7 +93,12 @@ make-spec =
     element-write-sizes
     mul-pointers-2
     element-write-pointers-2
-    add-t16
+    add-t18
+    enum-known-change-3
+    enum-told-2
+    keep-current-requires
     returns-3
     returns-4
-    returns-5)
+    returns-5
+    returns-6
+    returns-7)

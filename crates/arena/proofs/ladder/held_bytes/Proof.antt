@@ -1,5 +1,5 @@
 -- `arena::ladder::held_bytes` meets its contract. The invariant: what is counted is held in the places passed. Assumes nothing.
-use Prim.Native.Nat.{_≤_, _-_, _*_, _+_, zero-le}
+use Prim.Native.Nat.{_≤_, _-_, _*_, zero-le}
 use native.Mathlib.Numerals.{add-one}
 use native.Mathlib.Omega.{arith}
 use mathlib.Core.Path.{_≡_, refl}

@@ -2,13 +2,11 @@
 use native.Mathlib.Omega.{arith}
 use borrow.Author.Tests.{not-true, not-false}
 use mathlib.Core.Path.{_≡_, sym, _∙_, ap}
-use mathlib.Core.Bool.{true, false}
-use mathlib.Core.Option.{Option·map, none, some}
+use mathlib.Core.Option.{Option·map}
 use denote.Ref.{now}
 use Rattle.arena.specs.Record.{chunksOf}
-use Rattle.arena.specs.Sizing.{placeAlign, usable}
 use Rattle.arena.specs.Placing.{lowestPlace}
-use Rattle.arena.specs.Ladder.{heldBytes, underLimit, newChunk, rungChunk}
+use Rattle.arena.specs.Ladder.{newChunk, rungChunk}
 use Rattle.arena.specs.Inner.{newChunkOf}
 use Rattle.arena.proofs.Cases.{place-at, place-nowhere}
 use Rattle.arena.proofs.Lowest.{lowest-fits}

@@ -51,7 +51,7 @@ returns-3 c =
     let a = recordOf (s .args .h) (now (s .args .starts)) (now (s .args .sizes)) (now (s .args .pointers)) in
     let room = fast-room _ (sym (c .before .p .given .1) ∙ c .before .before .before .current-gives .ensures) in
     placed-moved a
-        (from-current (a .head) (heldOf a) (s .args .size) (s .args .align) (current-moved (a .head .minimum) (heldOf a) (s .args .size) (s .args .align) room))
+    (from-current (a .head) (heldOf a) (s .args .size) (s .args .align) (current-moved (a .head .minimum) (heldOf a) (s .args .size) (s .args .align) room))
 
 pub placed-tested-spec : {M : Type 1} → statement M
 placed-tested-spec =

@@ -40,8 +40,8 @@ returns-2 c =
     let a = recordOf (s .args .h) (now (s .args .starts)) (now (s .args .sizes)) (now (s .args .pointers)) in
     let room = fast-room _ (sym (c .before .p .given .1) ∙ c .before .before .before .in-place .ensures) in
     placed-moved a
-        (grows-in-place (a .head) (heldOf a) (s .args .offset) (s .args .old) (s .args .old-align) (s .args .new) (s .args .new-align)
-        (grown-moved (a .head .minimum) (heldOf a) (s .args .offset) (s .args .old) (s .args .old-align) (s .args .new) (s .args .new-align) room))
+    (grows-in-place (a .head) (heldOf a) (s .args .offset) (s .args .old) (s .args .old-align) (s .args .new) (s .args .new-align)
+    (grown-moved (a .head .minimum) (heldOf a) (s .args .offset) (s .args .old) (s .args .old-align) (s .args .new) (s .args .new-align) room))
 
 pub grown-block-spec : {M : Type 1} → statement M
 grown-block-spec =

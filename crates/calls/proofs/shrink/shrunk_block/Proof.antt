@@ -66,8 +66,8 @@ returns-2 c =
     let b = m .before .before in
     let s = b .args in
     placed-stays (own b) (b .pre .request .sound) (c .stay .ensures)
-        (shrinks-aligned (own b .head) (heldOf (own b)) (s .offset) (s .old) (s .old-align) (s .new) (s .new-align) (m .before .if1 .left)
-        (sym (m .is-multiple .ensures) ∙ c .before .if2 .taken))
+    (shrinks-aligned (own b .head) (heldOf (own b)) (s .offset) (s .old) (s .old-align) (s .new) (s .new-align) (m .before .if1 .left)
+    (sym (m .is-multiple .ensures) ∙ c .before .if2 .taken))
 
 placed-tested-requires : tie.Need-placed-tested-requires
 placed-tested-requires c κs = search needs

@@ -21,7 +21,7 @@ returns c =
     let s = c .before .before .before in
     let a = recordOf (s .args .h) (now (s .args .starts)) (now (s .args .sizes)) (now (s .args .pointers)) in
     placed-stays a (s .pre .0) (c .stay .ensures)
-        (stays-elsewhere (heldOf a) (s .args .offset) (s .args .old) (s .args .d) (taken-false (c .before .before .is-at-pointer .ensures) (c .before .if1 .taken)))
+    (stays-elsewhere (heldOf a) (s .args .offset) (s .args .old) (s .args .d) (taken-false (c .before .before .is-at-pointer .ensures) (c .before .if1 .taken)))
 
 add-if2 : tie.Need-add-if2
 add-if2 c = omega (arith, c .before .before .pre .1, sound-open _ (c .before .before .pre .0) .head .region-bound)
