@@ -22,6 +22,7 @@ use Rattle.calls.specs.declared.Placed.{Placed}
 use Rattle.calls.specs.declared.Ended.{Ended}
 use Rattle.calls.specs.declared.Token.{Token}
 use Rattle.calls.specs.declared.TokenAllocation.{TokenAllocation}
+use Rattle.calls.specs.declared.TokenPlaced.{TokenPlaced}
 use Rattle.calls.specs.declared.fast.Fast.{Fast}
 use Rattle.calls.specs.declared.fast.Fast.the-variants.{Room, Full}
 use Rattle.calls.specs.Allocate.{atPointer, chunkGives}
@@ -64,6 +65,12 @@ ChangedBy work a change = changedBy change a ≡ work a
 -- an allocation with the token that was recorded before it
 abbrev pub withToken : Allocation → Token → TokenAllocation
 withToken got token = record { answer = got .answer; token = tokenGiven (got .answer) token; arena = got .arena }
+
+abbrev pub tokenPlacedOf : Arena → TokenPlaced → TokenAllocation
+tokenPlacedOf a placed = record { answer = placed .answer; token = placed .token; arena = changedBy (placed .change) a }
+
+abbrev pub TokenPlacedBy : (Arena → TokenAllocation) → Arena → TokenPlaced → Type 0
+TokenPlacedBy call a placed = tokenPlacedOf a placed ≡ call a
 
 -- the tests that calls share, by what has been told apart of them: of a call that is lent bytes, of one that names a block of a sound record, and of one
 -- that asks for another size of that block; and the answer of the first that applies

@@ -47,6 +47,12 @@ pub struct Token {
     pub pointer: usize,
 }
 
+pub struct TokenPlaced {
+    pub answer: Given,
+    pub token: Token,
+    pub change: Change,
+}
+
 pub struct TokenAllocation {
     pub answer: Given,
     pub token: Token,

@@ -5,11 +5,13 @@ ghost use Rattle.arena.specs.Sound.{soundOf};
 ghost use Rattle.arena.specs.declared.Answer.the-variants.{Refused as Refused·answer};
 ghost use Rattle.arena.specs.declared.change.Change.the-variants.{Same};
 ghost use Rattle.calls.specs.declared.Given.the-variants.{Refused};
-ghost use Rattle.calls.specs.Inner.{placedOf, endedOf};
+ghost use Rattle.calls.specs.Inner.{placedOf, tokenPlacedOf, endedOf};
 use crate::Allocation;
 use crate::Ended;
 use crate::Given;
 use crate::Placed;
+use crate::TokenAllocation;
+use crate::TokenPlaced;
 use arena::Answer;
 use arena::Arena;
 use arena::Outcome;
@@ -44,6 +46,21 @@ pub fn settled(a: Arena, placed: Placed) -> Allocation
     let change = placed.change;
     let arena = changed(a, change);
     Allocation { answer, arena }
+}
+
+pub fn settled_with_token(a: Arena, placed: TokenPlaced) -> TokenAllocation
+    requires { ⌜ soundOf a ≡ true ⌝ }
+    ensures { λ r. ⌜ r ≡ tokenPlacedOf a placed ⌝ }
+{
+    let answer = placed.answer;
+    let token = placed.token;
+    let change = placed.change;
+    let arena = changed(a, change);
+    TokenAllocation {
+        answer,
+        token,
+        arena,
+    }
 }
 
 pub fn finished(a: Arena, ended: Ended) -> Outcome

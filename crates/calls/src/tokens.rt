@@ -8,21 +8,25 @@ ghost use Rattle.arena.specs.Numbers.{places};
 ghost use Rattle.arena.specs.Record.{chunksOf, recordOf, heldOf, holding};
 ghost use Rattle.arena.specs.Sound.{soundOf};
 ghost use Rattle.calls.specs.Allocate.{given};
-ghost use Rattle.calls.specs.Token.{tokenFor, withTokenOf, badToken, rewound, cancelOf};
-ghost use Rattle.calls.specs.Inner.{withToken};
-use crate::Allocation;
+ghost use Rattle.calls.specs.Token.{tokenFor, tokenGiven, withTokenOf, badToken, rewound, cancelOf};
+ghost use Rattle.calls.specs.Inner.{withToken, TokenPlacedBy, EndedBy, ChangedBy};
+use crate::Ended;
 use crate::Given;
 use crate::Token;
 use crate::TokenAllocation;
-use crate::allocate::allocate_sound;
+use crate::TokenPlaced;
+use crate::allocate::allocate_placed;
+use crate::settle::finished;
+use crate::settle::settled_with_token;
+use crate::settle::unended;
 use arena::Answer;
 use arena::Arena;
 use arena::Head;
 use arena::Outcome;
 use arena::Refusal;
+use arena::change::Change;
 use arena::sound::is_sound;
 use arena::table::chunk_at;
-use arena::table::with_pointer;
 
 fn token_for<'a>(
     h: Head,
@@ -48,36 +52,55 @@ fn token_for<'a>(
 }
 
 // A refused allocation says 0 and 0.
-fn with_token(got: Allocation, token: Token) -> TokenAllocation
-    ensures { λ r. ⌜ r ≡ withToken got token ⌝ }
+fn token_given(answer: Given, token: Token) -> Token
+    ensures { λ r. ⌜ r ≡ tokenGiven answer token ⌝ }
 {
-    let answer = got.answer;
-    let arena = got.arena;
     let Given::At(_) = answer else {
-        return TokenAllocation {
-            answer: answer,
-            token: Token {
-                count: 0,
-                pointer: 0,
-            },
-            arena: arena,
+        return Token {
+            count: 0,
+            pointer: 0,
         };
     };
-    TokenAllocation {
-        answer: answer,
-        token: token,
-        arena: arena,
-    }
+    token
 }
 
 // On a record that is known to be sound, lent its own region.
+pub fn allocate_with_token_placed<'a>(
+    h: Head,
+    starts: &'a [usize; 32],
+    sizes: &'a [usize; 32],
+    pointers: &'a [usize; 32],
+    size: usize,
+    align: usize,
+) -> TokenPlaced
+    requires { ⌜ soundOf (recordOf h (now starts) (now sizes) (now pointers)) ≡ true ⌝ }
+    ensures { λ r. ⌜ TokenPlacedBy (λ a. withTokenOf a (a .head .region) size align) (recordOf h (now (starts .entry)) (now (sizes .entry)) (now (pointers .entry))) r ⌝ }
+{
+    let before = token_for(h, starts, sizes, pointers);
+    let got = allocate_placed(h, starts, sizes, pointers, size, align);
+    let answer = got.answer;
+    let change = got.change;
+    let token = token_given(answer, before);
+    TokenPlaced {
+        answer,
+        token,
+        change,
+    }
+}
+
 pub fn allocate_with_token_sound(a: Arena, size: usize, align: usize) -> TokenAllocation
     requires { ⌜ soundOf a ≡ true ⌝ }
     ensures { λ r. ⌜ r ≡ withTokenOf a (a .head .region) size align ⌝ }
 {
-    let token = token_for(a.head, &a.starts, &a.sizes, &a.pointers);
-    let got = allocate_sound(a, size, align);
-    with_token(got, token)
+    let placed = allocate_with_token_placed(
+        a.head,
+        &a.starts,
+        &a.sizes,
+        &a.pointers,
+        size,
+        align,
+    );
+    settled_with_token(a, placed)
 }
 
 // The record goes back as it came.
@@ -142,40 +165,59 @@ fn is_bad_token<'a>(
 }
 
 // Only a block at the current pointer can be taken back.
-fn rewind(a: Arena, offset: usize, token: Token) -> Arena
-    requires { ⌜ soundOf a ≡ true ⌝ }
-    ensures { λ r. ⌜ r ≡ holding (a .head) (rewound (heldOf a) offset token) ⌝ }
+fn rewind<'a>(
+    h: Head,
+    starts: &'a [usize; 32],
+    sizes: &'a [usize; 32],
+    pointers: &'a [usize; 32],
+    offset: usize,
+    token: Token,
+) -> Change
+    requires { ⌜ soundOf (recordOf h (now starts) (now sizes) (now pointers)) ≡ true ⌝ }
+    ensures { λ r. ⌜ ChangedBy (λ a. holding (a .head) (rewound (heldOf a) offset token)) (recordOf h (now (starts .entry)) (now (sizes .entry)) (now (pointers .entry))) r ⌝ }
 {
-    let count = a.head.count;
+    let count = h.count;
     if count == 0 {
-        return a;
+        return Change::Same;
     }
-    let c = chunk_at(&a.starts, &a.sizes, &a.pointers, count - 1);
+    let c = chunk_at(starts, sizes, pointers, count - 1);
     if offset != c.pointer {
-        return a;
+        return Change::Same;
     }
     if token.count == count {
-        return with_pointer(a, token.pointer);
+        return Change::Moved(token.pointer);
     }
-    with_pointer(a, c.start + c.size)
+    Change::Moved(c.start + c.size)
 }
 
 // On a record that is known to be sound.
+pub fn cancel_ended<'a>(
+    h: Head,
+    starts: &'a [usize; 32],
+    sizes: &'a [usize; 32],
+    pointers: &'a [usize; 32],
+    offset: usize,
+    token: Token,
+) -> Ended
+    requires { ⌜ soundOf (recordOf h (now starts) (now sizes) (now pointers)) ≡ true ⌝ }
+    ensures { λ r. ⌜ EndedBy (λ a. cancelOf a offset token) (recordOf h (now (starts .entry)) (now (sizes .entry)) (now (pointers .entry))) r ⌝ }
+{
+    if is_bad_token(h, starts, sizes, pointers, offset, token) {
+        return unended(Refusal::Token);
+    }
+    let change = rewind(h, starts, sizes, pointers, offset, token);
+    Ended {
+        answer: Answer::Done,
+        change,
+    }
+}
+
 pub fn cancel_sound(a: Arena, offset: usize, token: Token) -> Outcome
     requires { ⌜ soundOf a ≡ true ⌝ }
     ensures { λ r. ⌜ r ≡ cancelOf a offset token ⌝ }
 {
-    if is_bad_token(a.head, &a.starts, &a.sizes, &a.pointers, offset, token) {
-        return Outcome {
-            answer: Answer::Refused(Refusal::Token),
-            arena: a,
-        };
-    }
-    let back = rewind(a, offset, token);
-    Outcome {
-        answer: Answer::Done,
-        arena: back,
-    }
+    let ended = cancel_ended(a.head, &a.starts, &a.sizes, &a.pointers, offset, token);
+    finished(a, ended)
 }
 
 pub fn cancel(a: Arena, offset: usize, token: Token) -> Outcome
