@@ -92,14 +92,7 @@ pub fn allocate_with_token_sound(a: Arena, size: usize, align: usize) -> TokenAl
     requires { ⌜ soundOf a ≡ true ⌝ }
     ensures { λ r. ⌜ r ≡ withTokenOf a (a .head .region) size align ⌝ }
 {
-    let placed = allocate_with_token_placed(
-        a.head,
-        &a.starts,
-        &a.sizes,
-        &a.pointers,
-        size,
-        align,
-    );
+    let placed = allocate_with_token_placed(a.head, &a.starts, &a.sizes, &a.pointers, size, align);
     settled_with_token(a, placed)
 }
 

@@ -2,6 +2,8 @@
 use Prim.Native.Nat.{ℕ, _+_, _*_}
 use mathlib.Core.Path.{_≡_}
 use lib.ListN.{length}
+use Rattle.arena.specs.declared.Arena.{Arena}
+use Rattle.arena.specs.Inner.{changedBy}
 use Rattle.calls.specs.Bytes.{written}
 use mathlib.Core.Bool.{cond}
 use mathlib.Core.List.{List, [], _∷_}
@@ -61,6 +63,6 @@ replySaid (At offset) = at-offset offset
 replySaid Done = done
 replySaid (Refused r) = refused r
 
--- what the code's run and the region's bytes after it say
-unfoldable pub ranSaid : Code·Ran → List ℕ → Ran
-ranSaid r bytes = ran (replySaid (r .reply)) (r .arena) bytes
+-- what the code's run and the region's bytes after it say, once its change of the record is made
+unfoldable pub ranSaid : Arena → Code·Ran → List ℕ → Ran
+ranSaid a r bytes = ran (replySaid (r .reply)) (changedBy (r .change) a) bytes

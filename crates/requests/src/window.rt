@@ -10,6 +10,7 @@ use crate::print::put_line;
 use crate::read::read_front;
 use crate::run::run;
 use arena::Arena;
+use arena::change::make;
 
 // Any line fits in this many bytes.
 pub const LINE: usize = 64;
@@ -34,7 +35,10 @@ pub fn run_window(
     requires { ⌜ number + length (now window) < 2 ^ 64 ⌝ }
     ensures { λ r. ⌜ Through (passedOf (length (now (out .entry))) number (memoryOf arena (now (region .entry))) (now (window .entry))) (now (out .entry)) r (now (region .exit)) (now (out .exit)) ⌝ }
 {
-    let mut held = arena;
+    let mut head = arena.head;
+    let mut starts = arena.starts;
+    let mut sizes = arena.sizes;
+    let mut pointers = arena.pointers;
     let mut next = number;
     let mut taken = 0;
     let mut written = 0;
@@ -42,13 +46,20 @@ pub fn run_window(
         let Front::Whole(size, request) = read_front(&window[taken..]) else {
             break;
         };
-        let ran = run(held, region, request);
+        let ran = run(head, &starts, &sizes, &pointers, region, request);
         let reply = ran.reply;
-        held = ran.arena;
+        let change = ran.change;
+        head = make(head, &mut starts, &mut sizes, &mut pointers, change);
         written = put_line(out, written, next, reply);
         taken += size;
         next += 1;
     }
+    let held = Arena {
+        head,
+        starts,
+        sizes,
+        pointers,
+    };
     Progress {
         arena: held,
         number: next,
