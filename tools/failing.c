@@ -1,5 +1,5 @@
-// Loaded before the C library (LD_PRELOAD), it makes a program's reads or writes go wrong. FAIL names the call, read or write; AT the turn that goes wrong,
-// from 1; ERROR the error's number. With ERROR 0 every such call moves one byte only.
+// Loaded before the C library (LD_PRELOAD), it makes a program's reads or writes go wrong. FAIL names the call, read or write; MOST the most bytes that it
+// moves, or 0 for as many as it will; AT the turn that fails, from 1, or 0 for none; ERROR that failure's number.
 #define _GNU_SOURCE
 #include <dlfcn.h>
 #include <errno.h>
@@ -16,14 +16,12 @@ static int goes_wrong(const char *call, int *turn, size_t *n) {
     const char *failing = getenv("FAIL");
     if (!failing || strcmp(failing, call) != 0)
         return 0;
-    int error = setting("ERROR");
-    if (error == 0) {
-        *n = *n < 1 ? *n : 1;
-        return 0;
-    }
+    size_t most = setting("MOST");
+    if (most != 0 && most < *n)
+        *n = most;
     if (++*turn != setting("AT"))
         return 0;
-    errno = error;
+    errno = setting("ERROR");
     return 1;
 }
 

@@ -56,6 +56,10 @@ fn end(state: State, rest: &[u8], output: &mut [u8]) {
     }
 }
 
+fn tell_too_long() {
+    io::write_all(libc::STDERR_FILENO, b"replay: standard input is too long\n");
+}
+
 // The state, how many bytes are kept at the front of the input, and whether there may be more to read.
 struct Kept {
     state: State,
@@ -73,9 +77,9 @@ fn turn(state: State, kept: usize, lent: &mut [u8], input: &mut [u8], output: &m
         bytes: 0,
         is_open: false,
     };
-    // The bytes kept are fewer than a record may have, and the input has room for four of them. Were it full, a read would seem to be at the end.
+    // The bytes kept are fewer than the longest record has. Were the input full, a read would seem to be at the end.
     if kept == input.len() {
-        io::write_all(libc::STDERR_FILENO, b"replay: standard input is too long\n");
+        tell_too_long();
         return stop;
     }
     let read = read_after(input, kept);
@@ -117,11 +121,15 @@ fn replay(lent: &mut [u8], input: &mut [u8], output: &mut [u8]) {
         kept = did.bytes;
         turns -= 1;
     }
+    tell_too_long();
 }
+
+// Room for three of the longest records, which have 65,537 bytes, so that there is always much to read into.
+const INPUT: usize = 262144;
 
 fn main() {
     let mut lent = io::large_buffer();
-    let mut input = [0u8; 262144];
+    let mut input = [0u8; INPUT];
     let mut output = io::large_buffer();
     replay(&mut lent, &mut input, &mut output);
 }

@@ -4,7 +4,7 @@ use native.Mathlib.Omega.{arith}
 use mathlib.Core.Bool.{Bool, true, false, _&&_, cond}
 use mathlib.Core.List.{List, [], _++_}
 use mathlib.Core.Option.{Option, none, some}
-use mathlib.Core.Path.{_≡_, refl, sym, ap, _∙_}
+use mathlib.Core.Path.{_≡_, refl, sym, ap, _∙_, subst}
 use lib.Dec.{leb, eqb}
 use lib.ListN.{length, take, drop, length-append}
 use lib.Seq.{take-at, drop-at}
@@ -14,9 +14,12 @@ use Rattle.rounding.proofs.First.{only-passed}
 use Rattle.arena.specs.declared.Arena.{Arena}
 use Rattle.arena.specs.declared.Outcome.{Outcome}
 use Rattle.arena.specs.Record.{holding}
-use Rattle.arena.specs.Sound.{allowedMinimum, soundOf}
+use Rattle.arena.specs.Sound.{allowedMinimum, limitFormed, soundOf}
 use Rattle.arena.specs.Creation.{freshHead, createdOf}
 use Rattle.arena.proofs.Made.{made-empty}
+use Rattle.arena.proofs.Emptied.{emptied-sound}
+use Rattle.arena.proofs.Soundness.{Settings, minimum-open}
+use Rattle.arena.specs.Numbers.{most}
 use Rattle.calls.specs.Bytes.{written}
 use Rattle.requests.specs.declared.machine.State.{State}
 use Rattle.requests.specs.declared.machine.Fed.{Fed}
@@ -32,7 +35,7 @@ use Rattle.requests.proofs.Putting.{put-then}
 use Rattle.requests.specs.declared.window.Progress.{Progress}
 use Rattle.requests.specs.Window.{memoryOf, Passed, lineRoom, passedWithin, passedOf, Through}
 use Rattle.requests.proofs.Windows.{Runs, passed-runs}
-use Rattle.requests.specs.Feed.{Stepped, stepped, stays, isBad, afterPassed, runStep, stepAt, lastNumber, ready, stepOf, stageSaid, memoryIn, ThroughLent, Came}
+use Rattle.requests.specs.Feed.{Stepped, stepped, stays, isBad, afterPassed, badNext, runStep, stepAt, lastNumber, ready, stepOf, stageSaid, memoryIn, ThroughLent, Came}
 
 -- nothing is put
 pub put-none : (out : List ℕ) → Put out 0 [] out 0
@@ -67,17 +70,39 @@ module _ (lent : List ℕ) (n : ℕ) (m : Memory) (window : List ℕ) (room : �
   unfolding stepAt
   heading-opens h r e = rw (le-leb headerSize (length window) h, le-leb lineRoom room r, e)
 
--- a good header's arena is made, and has the header's region
-header-made : (bytes : List ℕ) {h : Header} → headerOf bytes ≡ some h → createdOf (h .region) (h .minimum) 0 .arena .head .region ≡ h .region
-unfolding headerOf goodHeader holding
+pub fresh-settings : (region minimum : ℕ) → region ≤ most → allowedMinimum minimum ≡ true → Settings (freshHead region minimum)
+unfolding limitFormed
+fresh-settings region minimum r m =
+    let allowed = minimum-open minimum m in
+    record { minimum-power = allowed .power; minimum-bound = allowed .bound; region-bound = r; limit-formed = refl }
+
+-- a good header's arena is made, empty
+record Made (h : Header) : Type 0 where
+  region : h .region ≤ mostRegion
+  minimum : allowedMinimum (h .minimum) ≡ true
+  empty : createdOf (h .region) (h .minimum) 0 .arena ≡ holding (freshHead (h .region) (h .minimum)) []
+
+header-made : (bytes : List ℕ) {h : Header} → headerOf bytes ≡ some h → Made h
+unfolding headerOf goodHeader
 header-made bytes {h} e =
     let p = only-passed (goodHeader bytes) (record { minimum = byteAt bytes 1; region = number32 bytes 2 }) e in
     let rest = and-right (eqb (byteAt bytes 0) 1) _ (and-right (leb headerSize (length bytes)) _ (p .0)) in
     let short : number32 bytes 2 ≤ mostRegion = leb-true (number32 bytes 2) mostRegion (and-right (allowedMinimum (byteAt bytes 1)) _ rest) in
-    ap (λ (h : Header). createdOf (h .region) (h .minimum) 0 .arena .head .region) (sym (p .1))
-    ∙ ap (λ (o : Outcome). o .arena .head .region)
-    (made-empty (number32 bytes 2) (byteAt bytes 1) 0 (omega (arith, short)) (omega arith) (and-left (allowedMinimum (byteAt bytes 1)) _ rest) refl)
-    ∙ ap (λ (h : Header). h .region) (p .1)
+    let allowed = and-left (allowedMinimum (byteAt bytes 1)) _ rest in
+    subst Made (p .1)
+    (record {
+      region = short;
+      minimum = allowed;
+      empty = ap (λ (o : Outcome). o .arena) (made-empty (number32 bytes 2) (byteAt bytes 1) 0 (omega (arith, short)) (omega arith) allowed refl);
+    })
+
+pub header-region : (bytes : List ℕ) {h : Header} → headerOf bytes ≡ some h →
+    (createdOf (h .region) (h .minimum) 0 .arena .head .region ≡ h .region) × (h .region ≤ mostRegion)
+unfolding holding
+header-region bytes e = let m = header-made bytes e in (ap (λ (a : Arena). a .head .region) (m .empty), m .region)
+
+pub header-sound : (bytes : List ℕ) {h : Header} → headerOf bytes ≡ some h → soundOf (createdOf (h .region) (h .minimum) 0 .arena) ≡ true
+header-sound bytes e = let m = header-made bytes e in emptied-sound (fresh-settings _ _ (omega (arith, m .region)) (m .minimum)) (m .empty)
 
 -- the memory of a good header, from the arena that was made
 pub header-memory : (lent bytes : List ℕ) {h : Header} (made : Outcome) → headerOf bytes ≡ some h → made ≡ createdOf (h .region) (h .minimum) 0 →
@@ -85,7 +110,7 @@ pub header-memory : (lent bytes : List ℕ) {h : Header} (made : Outcome) → he
 unfolding memoryFor
 header-memory lent bytes {h} made e m =
     ap (λ (o : Outcome). memoryIn (o .arena) lent) m
-    ∙ ap (λ (k : ℕ). memoryOf (createdOf (h .region) (h .minimum) 0 .arena) (take k lent)) (header-made bytes e)
+    ∙ ap (λ (k : ℕ). memoryOf (createdOf (h .region) (h .minimum) 0 .arena) (take k lent)) (header-region bytes e .0)
 
 -- the memory of a bad one
 pub no-memory : (lent : List ℕ) (a : Arena) → a ≡ holding (freshHead 0 1) [] → memoryIn a lent ≡ memoryFor lent none
@@ -126,16 +151,16 @@ module _ (a : Arena) (n : ℕ) (lent window out₀ : List ℕ) {got : Progress} 
   unfolding came
   ends-at = omega (arith, t .through .put .moved)
 
-  by-test : {stops : Bool} → (leb lineRoom (length out₀ - length (came .text)) && isBad (frontOf (drop (came .taken) window))) ≡ stops →
+  by-test : {stops : Bool} → badNext (length out₀) window came ≡ stops →
       stepAt running lent n (memoryIn a lent) window (length out₀) ≡ afterPassed stops came (length window)
   unfolding stepAt runStep came
   by-test e = ap (λ (b : Bool). afterPassed b came (length window)) e
 
-  goes-on : (leb lineRoom (length out₀ - length (came .text)) && isBad (frontOf (drop (came .taken) window))) ≡ false →
+  runs-on : badNext (length out₀) window came ≡ false →
       Came (stepAt running lent n (memoryIn a lent) window (length out₀)) lent out₀
       (record { state = record { stage = Running; number = got .number; arena = got .arena }; taken = got .taken; written = got .written }) lent' out
   unfolding afterPassed stageSaid came
-  goes-on e =
+  runs-on e =
       rw (by-test e)
       (record {
         stage = refl;
@@ -153,13 +178,13 @@ module _ (a : Arena) (n : ℕ) (lent window out₀ : List ℕ) {got : Progress} 
   pub came-no-room : length out - got .written < lineRoom →
       Came (stepAt running lent n (memoryIn a lent) window (length out₀)) lent out₀
       (record { state = record { stage = Running; number = got .number; arena = got .arena }; taken = got .taken; written = got .written }) lent' out
-  came-no-room r = goes-on (rw (lt-leb lineRoom (length out₀ - length (came .text)) (omega (arith, ends-at, same, r))))
+  came-no-room r = runs-on (rw (lt-leb lineRoom (length out₀ - length (came .text)) (omega (arith, ends-at, same, r))))
 
   pub came-good : lineRoom ≤ length out - got .written → isBad (frontOf (drop (got .taken) window)) ≡ false →
       Came (stepAt running lent n (memoryIn a lent) window (length out₀)) lent out₀
       (record { state = record { stage = Running; number = got .number; arena = got .arena }; taken = got .taken; written = got .written }) lent' out
   came-good r b =
-      goes-on (rw (le-leb lineRoom (length out₀ - length (came .text)) (omega (arith, ends-at, same, r)), front-there) b)
+      runs-on (rw (le-leb lineRoom (length out₀ - length (came .text)) (omega (arith, ends-at, same, r)), front-there) b)
 
   pub came-bad : {out' : List ℕ} {w : ℕ} → lineRoom ≤ length out - got .written → isBad (frontOf (drop (got .taken) window)) ≡ true →
       Put out (got .written) (decimal (got .number) ++ badRecordText) out' w →
@@ -211,7 +236,7 @@ unfolding stepAt runStep afterPassed endingLine passedOf
 running-inside lent n m window room =
     go (passedWithin (length window) room n m window) (passed-runs (length window) room n m window)
   where
-    by : (p : Passed) → Runs room n m window p → (b : Bool) → (leb lineRoom (room - length (p .text)) && isBad (frontOf (drop (p .taken) window))) ≡ b →
+    by : (p : Passed) → Runs room n m window p → (b : Bool) → badNext room window p ≡ b →
         Inside (afterPassed b p (length window)) window room
     by p h false e = record { taken = h .inside; text = h .fits }
     by p h true e =
@@ -229,9 +254,9 @@ running-inside lent n m window room =
         }
 
     go : (p : Passed) → Runs room n m window p → Inside (runStep room window p) window room
-    go p h = by p h (leb lineRoom (room - length (p .text)) && isBad (frontOf (drop (p .taken) window))) refl
+    go p h = by p h (badNext room window p) refl
 
-step-inside : (ready : Bool) (stage : Stage) (lent : List ℕ) (n : ℕ) (m : Memory) (window : List ℕ) (room : ℕ) →
+pub step-inside : (ready : Bool) (stage : Stage) (lent : List ℕ) (n : ℕ) (m : Memory) (window : List ℕ) (room : ℕ) →
     Inside (stepOf ready stage lent n m window room) window room
 unfolding stepOf stepAt
 step-inside false stage lent n m window room = stays-inside stage n m window room

@@ -13,3 +13,4 @@ pub mod Stepping
 pub mod Windows
 pub mod Feeds
 pub mod Pieces
+pub mod Ready

@@ -20,7 +20,7 @@ use Rattle.requests.specs.Replay.{closed}
 use Rattle.requests.specs.Machine.{Stage, heading, running, stopped, Machine, machine, start, headed, fedAt, fed, endingText, ended}
 use Rattle.requests.specs.Request.{Request}
 use Rattle.requests.specs.Window.{Passed, passed, lineRoom, passedWithin, passedOf}
-use Rattle.requests.specs.Feed.{Stepped, stepped, stays, isBad, afterPassed, runStep, stepAt}
+use Rattle.requests.specs.Feed.{Stepped, stepped, stays, isBad, afterPassed, badNext, runStep, stepAt}
 use Rattle.requests.specs.Pieces.{Piece, Gone, begun, after, goneOn, isRest, AnyPieces, NothingTaken}
 use Rattle.requests.proofs.Feeding.{fed-append, fed-stopped, settled, settled-unfinished, run-on}
 use Rattle.requests.proofs.Heading.{header-stays, openedBy, opened}
@@ -109,7 +109,7 @@ unfolding stepAt runStep afterPassed passedOf Feeds
 running-feeds lent n m window text room =
     go (passedWithin (length window) room n m window) (passed-runs (length window) room n m window)
   where
-    by : (p : Passed) → Runs room n m window p → (b : Bool) → (leb lineRoom (room - length (p .text)) && isBad (frontOf (drop (p .taken) window))) ≡ b →
+    by : (p : Passed) → Runs room n m window p → (b : Bool) → badNext room window p ≡ b →
         Feeds running lent n m window text (afterPassed b p (length window))
     by p h false e = (h .comes lent text, tt)
     by p h true e =
@@ -124,7 +124,7 @@ running-feeds lent n m window text room =
         )
 
     go : (p : Passed) → Runs room n m window p → Feeds running lent n m window text (runStep room window p)
-    go p h = by p h (leb lineRoom (room - length (p .text)) && isBad (frontOf (drop (p .taken) window))) refl
+    go p h = by p h (badNext room window p) refl
 
 step-feeds : (stage : Stage) (lent : List ℕ) (n : ℕ) (m : Memory) (window text : List ℕ) (room : ℕ) → Fresh stage lent m text →
     Feeds stage lent n m window text (stepAt stage lent n m window room)
@@ -184,7 +184,7 @@ any-pieces lent pieces rest r =
 -- where a run takes nothing of a window, no record was passed
 none-passed : (room : ℕ) (window : List ℕ) (p : Passed) → p .taken ≤ length window → runStep room window p .taken ≡ 0 → p .taken ≡ 0
 unfolding runStep afterPassed
-none-passed room window p h = go (leb lineRoom (room - length (p .text)) && isBad (frontOf (drop (p .taken) window)))
+none-passed room window p h = go (badNext room window p)
   where
     go : (b : Bool) → afterPassed b p (length window) .taken ≡ 0 → p .taken ≡ 0
     go true e = omega (arith, h, e)

@@ -23,7 +23,7 @@ use Rattle.requests.proofs.Putting.{put-length, put-taken, put-then}
 use Rattle.requests.proofs.Lines.{line-length}
 use Rattle.requests.proofs.Keeping.{run-sound, run-region}
 
--- a front that no record is run from
+-- a front that a record is run from
 abbrev pub isWhole : Front → Bool
 isWhole nothing = false
 isWhole part = false

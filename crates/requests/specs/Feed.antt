@@ -1,5 +1,5 @@
--- Feeding the machine a window of the file at a time. How much is taken and written at once decides nothing of document 01: laws say that the machine,
--- fed the bytes that were taken, comes to the same.
+-- Feeding the machine a window of the file at a time. How much is taken and written at once decides nothing of document 01: the machine, fed the bytes
+-- that were taken, comes to the same (Pieces.antt).
 use Prim.Native.Nat.{ℕ, _+_, _-_}
 use mathlib.Core.Bool.{Bool, true, false, _&&_, cond}
 use mathlib.Core.List.{List, [], _++_}
@@ -45,9 +45,12 @@ unfoldable pub afterPassed : Bool → Passed → ℕ → Stepped
 afterPassed true p size = stepped (machine stopped (p .number) (p .memory) [] (p .text ++ endingLine (p .number) badRecord)) size
 afterPassed false p size = stepped (machine running (p .number) (p .memory) [] (p .text)) (p .taken)
 
+-- a bad record comes next, and its line has room
+abbrev pub badNext : ℕ → List ℕ → Passed → Bool
+badNext room window p = leb lineRoom (room - length (p .text)) && isBad (frontOf (drop (p .taken) window))
+
 unfoldable pub runStep : ℕ → List ℕ → Passed → Stepped
-runStep room window p =
-    afterPassed (leb lineRoom (room - length (p .text)) && isBad (frontOf (drop (p .taken) window))) p (length window)
+runStep room window p = afterPassed (badNext room window p) p (length window)
 
 unfoldable pub stepAt : Stage → List ℕ → ℕ → Memory → List ℕ → ℕ → Stepped
 stepAt heading lent n m window room =

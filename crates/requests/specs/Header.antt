@@ -12,11 +12,11 @@ use Rattle.arena.specs.Sound.{allowedMinimum}
 use Rattle.arena.specs.Creation.{freshHead, createdOf}
 use Rattle.requests.specs.Bytes.{byteAt, number32}
 
--- "byte 1 (version), minimum alignment (1 byte), region length (4 bytes)"
+-- "byte 1 (version), minimum alignment (1 byte), region length (4 bytes, at most 65,536)"
 abbrev pub headerSize : ℕ
 headerSize = 6
 
--- "at most 65,536"
+-- the longest of them
 abbrev pub mostRegion : ℕ
 mostRegion = 65536
 

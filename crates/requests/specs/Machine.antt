@@ -51,7 +51,7 @@ recordFed bad n m pending text = machine stopped n m [] (text ++ endingLine n ba
 recordFed (whole size r) n m pending text =
     machine running (n + 1) (run r m .memory) [] (text ++ lineOf n (run r m .reply))
 
--- "Bytes after `bad header` or `bad record` are swallowed and change nothing"
+-- "both stop the run"; document 02, C-19: "Bytes after `bad header` or `bad record` are swallowed and change nothing"
 unfoldable pub fedAt : List ℕ → Stage → Machine → ℕ → Machine
 fedAt lent heading s b = headerFed lent (s .pending ++ (b ∷ []))
 fedAt lent running s b =

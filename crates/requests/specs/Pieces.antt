@@ -1,6 +1,6 @@
 -- A file fed window by window, however it is cut and whatever room the output has: the statement that every way of going through it comes to the
 -- definition. Bytes that were not taken may stand at the front of the next window; nothing here asks for it, so that a way of going on is any row of windows.
-use Prim.Native.Nat.{ℕ, _≤_}
+use Prim.Native.Nat.{ℕ, _+_, _≤_, _<_}
 use mathlib.Core.Bool.{Bool, true}
 use mathlib.Core.List.{List, [], _∷_, _++_}
 use mathlib.Core.Option.{none}
@@ -8,11 +8,11 @@ use mathlib.Core.Path.{_≡_}
 use lib.ListN.{length, take}
 use lib.Dec.{ltb}
 use Rattle.requests.specs.Front.{unfinished, frontOf}
-use Rattle.requests.specs.Header.{Memory, headerSize, memoryFor}
+use Rattle.requests.specs.Header.{Memory, headerSize, mostRegion, memoryFor}
 use Rattle.requests.specs.Machine.{Stage, heading, running, stopped, endingText}
 use Rattle.requests.specs.Replay.{closed, replayOf}
 use Rattle.requests.specs.Window.{lineRoom}
-use Rattle.requests.specs.Feed.{Stepped, stepAt}
+use Rattle.requests.specs.Feed.{Stepped, stepAt, lastNumber, ready, finalText}
 
 -- a window, and the room of the output that it is fed with
 pub record Piece : Type 0 where
@@ -63,3 +63,18 @@ unfoldable pub NothingTaken : Type 0
 NothingTaken =
     (stage : Stage) (lent : List ℕ) (n : ℕ) (m : Memory) (window : List ℕ) (room : ℕ) → lineRoom ≤ room →
     stepAt stage lent n m window room .taken ≡ 0 → isRest stage window ≡ true
+
+-- with the longest region lent, and fewer bytes fed than the last number, every window finds the run ready: `feed` takes what the statements above say
+unfoldable pub StaysReady : Type 0
+StaysReady =
+    (lent : List ℕ) (pieces : List Piece) (window : List ℕ) → mostRegion ≤ length lent →
+    let g = goneOn lent (begun lent) pieces in
+    length (g .taken) + length window < lastNumber → ready (g .memory .arena) (g .number) (length lent) (length window) ≡ true
+
+-- and what `finish` writes then ends the text of the definition
+unfoldable pub WholeText : Type 0
+WholeText =
+    (lent : List ℕ) (pieces : List Piece) (rest : List ℕ) →
+    let g = goneOn lent (begun lent) pieces in
+    isRest (g .stage) rest ≡ true →
+    g .text ++ finalText true (g .stage) (g .number) (g .memory .arena) rest ≡ replayOf lent (g .taken ++ rest) .text

@@ -1,5 +1,5 @@
--- What running a window of the file comes to. How much of it is run at once decides nothing of document 01: a law says that the machine, fed the bytes
--- that were taken, comes to the same.
+-- What running a window of the file comes to. How much of it is run at once decides nothing of document 01: the machine, fed the bytes that were taken,
+-- comes to the same (`passed-runs`).
 use Prim.Native.Nat.{ℕ, zero, suc, _+_, _-_}
 use mathlib.Core.Bool.{cond}
 use mathlib.Core.List.{List, [], _++_}

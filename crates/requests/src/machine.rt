@@ -32,7 +32,7 @@ use arena::creation::emptied;
 use arena::ladder::held_bytes;
 use arena::sound::is_sound;
 
-// The next request's number, and the record.
+// The stage, the next request's number, and the record.
 pub struct State {
     pub stage: Stage,
     pub number: usize,
@@ -71,7 +71,9 @@ pub fn start() -> State
     }
 }
 
-fn is_ready(arena: Arena, number: usize, lent: &[u8], window: &[u8]) -> bool
+// Whether feeding takes what it can: bytes for the longest region, 65,536, are lent, the record is sound and its region among them, and the number can count
+// every request of the window.
+pub fn is_ready(arena: Arena, number: usize, lent: &[u8], window: &[u8]) -> bool
     ensures { λ r. ⌜ r ≡ ready arena number (length (now (lent .entry))) (length (now (window .entry))) ⌝ }
 {
     if lent.len() < MOST_REGION {
@@ -201,8 +203,8 @@ fn swallow(state: State, window: &[u8]) -> Fed
     }
 }
 
-// Takes what it can of the window: nothing while its front is not a whole header or record, or fewer than 64 bytes of the output are free. A state that
-// is not sound, or that the lent bytes or the window don't fit, stays as it is.
+// Takes what it can of the window: nothing while its front is not a whole header or record, or fewer than 64 bytes of the output are free. What is
+// not ready stays as it is.
 pub fn feed(state: State, lent: &mut [u8], window: &[u8], out: &mut [u8]) -> Fed
     ensures { λ r. ⌜ Came (stepOf (ready (state .arena) (state .number) (length (now (lent .entry))) (length (now (window .entry)))) (stageSaid (state .stage)) (now (lent .entry)) (state .number) (memoryIn (state .arena) (now (lent .entry))) (now (window .entry)) (length (now (out .entry)))) (now (lent .entry)) (now (out .entry)) r (now (lent .exit)) (now (out .exit)) ⌝ }
     ensures { λ r. ⌜ (r .taken ≤ length (now (window .entry))) × (r .written ≤ length (now (out .exit))) ⌝ }

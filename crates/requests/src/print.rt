@@ -53,7 +53,7 @@ fn put_ended(out: &mut [u8], at: usize, text: &[u8], n: usize) -> usize
     put_text(out, end, b"\n")
 }
 
-// A request's line. The longest takes 50 bytes.
+// A request's line. The longest takes 45 bytes.
 pub fn put_line(out: &mut [u8], at: usize, number: usize, reply: Reply) -> usize
     requires { ⌜ at + 64 ≤ length (now out) ⌝ }
     ensures { λ r. ⌜ Put (now (out .entry)) at (lineOf number (replySaid reply)) (now (out .exit)) r ⌝ }

@@ -42,6 +42,9 @@ loop-less c = search needs
 loop-again : tie.Need-loop-again Inv-loop μ-loop
 loop-again c = search needs
 
+tell-too-long-requires : tie.Need-tell-too-long-requires Inv-loop μ-loop
+tell-too-long-requires c κs = search needs
+
 same-length-4 : tie.Need-same-length-4 Inv-loop μ-loop
 same-length-4 c = search needs
 
@@ -70,6 +73,7 @@ replay-spec =
     sub-turns
     loop-less
     loop-again
+    tell-too-long-requires
     same-length-4
     same-length-5
     same-length-6

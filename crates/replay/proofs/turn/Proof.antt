@@ -8,11 +8,8 @@ use lib.Seq.{length-take-le}
 use Rattle.replay.proofs.turn.Statement.{statement}
 use Rattle.replay.proofs.turn.Tie as tie
 
-slice-aggregate-write-all : tie.Need-slice-aggregate-write-all
-slice-aggregate-write-all c = search needs
-
-write-all-requires : tie.Need-write-all-requires
-write-all-requires c κs = search needs
+tell-too-long-requires : tie.Need-tell-too-long-requires
+tell-too-long-requires c κs = search needs
 
 returns : tie.Need-returns
 returns c = search needs
@@ -128,8 +125,7 @@ pub turn-spec : {M : Type 1} → statement M
 turn-spec =
     tie.close
     (tie.spec
-    slice-aggregate-write-all
-    write-all-requires
+    tell-too-long-requires
     returns
     read-after-requires
     slice-aggregate-fail
