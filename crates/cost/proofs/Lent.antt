@@ -14,6 +14,9 @@ use Rattle.calls.proofs.StaysSound.{allocate-sound, grow-sound, shrink-sound}
 abbrev pub Lent : ℕ → Arena → Type 0
 Lent n a = (soundOf a ≡ true) × (n ≡ a .head .region)
 
+pub lent-by : (n : ℕ) {a b : Arena} → b ≡ a → Lent n a → Lent n b
+lent-by n e own = (ap soundOf e ∙ own .0, own .1 ∙ sym (ap (λ (c : Arena). c .head .region) e))
+
 module _ (n : ℕ) (a : Arena) (own : Lent n a) where
   after : (r o : Allocation) → r ≡ o → soundOf (o .arena) ≡ true → o .arena .head .region ≡ a .head .region → Lent n (r .arena)
   after r o e sound same = (ap (λ o. soundOf (o .arena)) e ∙ sound, own .1 ∙ sym (ap (λ o. o .arena .head .region) e ∙ same))

@@ -1,4 +1,4 @@
-// The same turns by the inner forms, on a record that was found sound once.
+// The same turns by the inner forms, on a record that was found sound once and is changed in place.
 ghost use mathlib.Core.Path.{_≡_};
 ghost use mathlib.Core.Bool.{true};
 ghost use Prim.Native.Nat.{_<_};
@@ -6,17 +6,16 @@ ghost use lib.ListN.{length};
 ghost use Rattle.arena.specs.Sound.{soundOf};
 use arena::Answer;
 use arena::Arena;
+use arena::change::Change;
 use arena::change::make;
-use arena::reset::kept_by_reset;
 use arena::sound::is_sound;
 use calls::Given;
 use calls::allocate::allocate_placed;
-use calls::allocate::allocate_sound;
-use calls::free::free_sound;
-use calls::grow::grow_sound;
-use calls::shrink::shrink_sound;
-use calls::tokens::allocate_with_token_sound;
-use calls::tokens::cancel_sound;
+use calls::free::free_ended;
+use calls::grow::grow_placed;
+use calls::shrink::shrink_placed;
+use calls::tokens::allocate_with_token_placed;
+use calls::tokens::cancel_ended;
 
 fn allocate_turns(a: Arena, turns: usize, size: usize) -> usize
     requires { ⌜ soundOf a ≡ true ⌝ }
@@ -40,19 +39,25 @@ fn allocate_turns(a: Arena, turns: usize, size: usize) -> usize
 fn free_turns(a: Arena, turns: usize, size: usize) -> usize
     requires { ⌜ soundOf a ≡ true ⌝ }
 {
-    let mut now = a;
+    let mut head = a.head;
+    let mut starts = a.starts;
+    let mut sizes = a.sizes;
+    let mut pointers = a.pointers;
     for turn in 0..turns {
-        let got = allocate_sound(now, size, 8);
+        let got = allocate_placed(head, &starts, &sizes, &pointers, size, 8);
         let answer = got.answer;
         let Given::At(at) = answer else {
             return turn;
         };
-        let after = free_sound(got.arena, at, size, 8);
+        let change = got.change;
+        head = make(head, &mut starts, &mut sizes, &mut pointers, change);
+        let after = free_ended(head, &starts, &sizes, &pointers, at, size, 8);
         let done = after.answer;
         let Answer::Done = done else {
             return turn;
         };
-        now = after.arena;
+        let change = after.change;
+        head = make(head, &mut starts, &mut sizes, &mut pointers, change);
     }
     turns
 }
@@ -60,19 +65,36 @@ fn free_turns(a: Arena, turns: usize, size: usize) -> usize
 fn grow_turns(a: Arena, region: &mut [u8], turns: usize, size: usize) -> usize
     requires { ⌜ (soundOf a ≡ true) × (length (now region) ≡ a .head .region) × (size < 500000000) ⌝ }
 {
-    let mut now = a;
+    let mut head = a.head;
+    let mut starts = a.starts;
+    let mut sizes = a.sizes;
+    let mut pointers = a.pointers;
     for turn in 0..turns {
-        let got = allocate_sound(now, size, 8);
+        let got = allocate_placed(head, &starts, &sizes, &pointers, size, 8);
         let answer = got.answer;
         let Given::At(at) = answer else {
             return turn;
         };
-        let after = grow_sound(got.arena, region, at, size, 8, size + 16, 8);
+        let change = got.change;
+        head = make(head, &mut starts, &mut sizes, &mut pointers, change);
+        let after = grow_placed(
+            head,
+            &starts,
+            &sizes,
+            &pointers,
+            region,
+            at,
+            size,
+            8,
+            size + 16,
+            8,
+        );
         let done = after.answer;
         let Given::At(_) = done else {
             return turn;
         };
-        now = after.arena;
+        let change = after.change;
+        head = make(head, &mut starts, &mut sizes, &mut pointers, change);
     }
     turns
 }
@@ -80,19 +102,36 @@ fn grow_turns(a: Arena, region: &mut [u8], turns: usize, size: usize) -> usize
 fn shrink_turns(a: Arena, region: &mut [u8], turns: usize, size: usize) -> usize
     requires { ⌜ (soundOf a ≡ true) × (length (now region) ≡ a .head .region) × (size < 500000000) ⌝ }
 {
-    let mut now = a;
+    let mut head = a.head;
+    let mut starts = a.starts;
+    let mut sizes = a.sizes;
+    let mut pointers = a.pointers;
     for turn in 0..turns {
-        let got = allocate_sound(now, size + size, 8);
+        let got = allocate_placed(head, &starts, &sizes, &pointers, size + size, 8);
         let answer = got.answer;
         let Given::At(at) = answer else {
             return turn;
         };
-        let after = shrink_sound(got.arena, region, at, size + size, 8, size, 8);
+        let change = got.change;
+        head = make(head, &mut starts, &mut sizes, &mut pointers, change);
+        let after = shrink_placed(
+            head,
+            &starts,
+            &sizes,
+            &pointers,
+            region,
+            at,
+            size + size,
+            8,
+            size,
+            8,
+        );
         let done = after.answer;
         let Given::At(_) = done else {
             return turn;
         };
-        now = after.arena;
+        let change = after.change;
+        head = make(head, &mut starts, &mut sizes, &mut pointers, change);
     }
     turns
 }
@@ -100,14 +139,18 @@ fn shrink_turns(a: Arena, region: &mut [u8], turns: usize, size: usize) -> usize
 fn token_turns(a: Arena, turns: usize, size: usize) -> usize
     requires { ⌜ soundOf a ≡ true ⌝ }
 {
-    let mut now = a;
+    let mut head = a.head;
+    let mut starts = a.starts;
+    let mut sizes = a.sizes;
+    let mut pointers = a.pointers;
     for turn in 0..turns {
-        let got = allocate_with_token_sound(now, size, 8);
+        let got = allocate_with_token_placed(head, &starts, &sizes, &pointers, size, 8);
         let answer = got.answer;
         let Given::At(_) = answer else {
             return turn;
         };
-        now = got.arena;
+        let change = got.change;
+        head = make(head, &mut starts, &mut sizes, &mut pointers, change);
     }
     turns
 }
@@ -115,19 +158,25 @@ fn token_turns(a: Arena, turns: usize, size: usize) -> usize
 fn cancel_turns(a: Arena, turns: usize, size: usize) -> usize
     requires { ⌜ soundOf a ≡ true ⌝ }
 {
-    let mut now = a;
+    let mut head = a.head;
+    let mut starts = a.starts;
+    let mut sizes = a.sizes;
+    let mut pointers = a.pointers;
     for turn in 0..turns {
-        let got = allocate_with_token_sound(now, size, 8);
+        let got = allocate_with_token_placed(head, &starts, &sizes, &pointers, size, 8);
         let answer = got.answer;
         let Given::At(at) = answer else {
             return turn;
         };
-        let after = cancel_sound(got.arena, at, got.token);
+        let change = got.change;
+        head = make(head, &mut starts, &mut sizes, &mut pointers, change);
+        let after = cancel_ended(head, &starts, &sizes, &pointers, at, got.token);
         let done = after.answer;
         let Answer::Done = done else {
             return turn;
         };
-        now = after.arena;
+        let change = after.change;
+        head = make(head, &mut starts, &mut sizes, &mut pointers, change);
     }
     turns
 }
@@ -135,17 +184,19 @@ fn cancel_turns(a: Arena, turns: usize, size: usize) -> usize
 fn reset_turns(a: Arena, turns: usize, size: usize) -> usize
     requires { ⌜ soundOf a ≡ true ⌝ }
 {
-    let mut last = a;
+    let mut head = a.head;
+    let mut starts = a.starts;
+    let mut sizes = a.sizes;
+    let mut pointers = a.pointers;
     for turn in 0..turns {
-        let got = allocate_sound(a, size, 8);
+        let got = allocate_placed(head, &starts, &sizes, &pointers, size, 8);
         let answer = got.answer;
         let Given::At(_) = answer else {
             return turn;
         };
-        last = kept_by_reset(got.arena);
-    }
-    if !is_sound(last.head, &last.starts, &last.sizes, &last.pointers) {
-        return 0;
+        let change = got.change;
+        head = make(head, &mut starts, &mut sizes, &mut pointers, change);
+        head = make(head, &mut starts, &mut sizes, &mut pointers, Change::Kept);
     }
     turns
 }

@@ -1,31 +1,42 @@
--- `cost::inner::free_turns` meets its contract: it is safe, and no more turns are taken than were asked for. The record stays sound. Assumes nothing.
+-- `cost::inner::free_turns` meets its contract: it is safe, and no more turns are taken than were asked for. The record stays sound.
+-- Assumes nothing.
 use Prim.Native.Nat.{_≤_, _-_}
 use native.Mathlib.Omega.{arith}
 use mathlib.Core.Bool.{true}
 use mathlib.Core.Path.{_≡_, ap, _∙_}
 use borrow.Author.Needs.{needs}
+use Rattle.arena.specs.declared.Arena.{Arena}
+use Rattle.arena.specs.Record.{recordOf}
 use Rattle.arena.specs.Sound.{soundOf}
 use Rattle.calls.proofs.StaysSound.{allocate-sound, free-sound}
 use Rattle.cost.proofs.inner.free_turns.Statement.{statement}
 use Rattle.cost.proofs.inner.free_turns.Tie as tie
 
 abbrev Inv-loop : tie.InvT-loop
-Inv-loop turns size now₀ turn₀ now turn = (turn ≤ turns) × (soundOf now ≡ true)
+Inv-loop turns size head₀ starts₀ sizes₀ pointers₀ turn₀ head starts sizes pointers turn =
+    (turn ≤ turns) × (soundOf (recordOf head starts sizes pointers) ≡ true)
 
 abbrev μ-loop : tie.MeasureT-loop
-μ-loop turns size now₀ turn₀ now turn = turns - turn
+μ-loop turns size head₀ starts₀ sizes₀ pointers₀ turn₀ head starts sizes pointers turn =
+    turns - turn
 
--- what the first call leaves
-held : (c : tie.After-allocate-sound Inv-loop μ-loop) → soundOf (c .allocate-sound .result .arena) ≡ true
+-- the record at the loop's head, and what the first call leaves
+abbrev own : tie.At-loop Inv-loop μ-loop → Arena
+own l = recordOf (l .loop .head) (l .loop .starts) (l .loop .sizes) (l .loop .pointers)
+
+abbrev made : tie.After-make Inv-loop μ-loop → Arena
+made c = recordOf (c .make .result) (c .make .last .1 .0) (c .make .last .1 .1 .0) (c .make .last .1 .1 .1 .0)
+
+held : (c : tie.After-make Inv-loop μ-loop) → soundOf (made c) ≡ true
 held c =
-    let l = c .before .before .loop in
-    ap (λ o. soundOf (o .arena)) (c .allocate-sound .ensures) ∙ allocate-sound (l .now) (l .inv .1) _ _ _
+    let l = c .before .before .before .before .before .before .before .before .before .before .before .before in
+    ap soundOf (c .make .ensures) ∙ ap (λ o. soundOf (o .arena)) (c .before .before .before .before .before .before .before .allocate-placed .ensures) ∙ allocate-sound (own l) (l .loop .inv .1) _ _ _
 
 loop-holds : tie.Need-loop-holds Inv-loop μ-loop
 loop-holds c = search needs
 
-allocate-sound-requires : tie.Need-allocate-sound-requires Inv-loop μ-loop
-allocate-sound-requires c κs = search needs
+allocate-placed-requires : tie.Need-allocate-placed-requires Inv-loop μ-loop
+allocate-placed-requires c κs = search needs
 
 enum-known-answer : tie.Need-enum-known-answer Inv-loop μ-loop
 enum-known-answer c = search needs
@@ -36,8 +47,11 @@ enum-told c = search needs
 returns : tie.Need-returns Inv-loop μ-loop
 returns c = search needs
 
-free-sound-requires : tie.Need-free-sound-requires Inv-loop μ-loop
-free-sound-requires c κs = held (c .before .before .before)
+make-requires : tie.Need-make-requires Inv-loop μ-loop
+make-requires c κs = search needs
+
+free-ended-requires : tie.Need-free-ended-requires Inv-loop μ-loop
+free-ended-requires c κs = held (c .before .before .before)
 
 enum-told-2 : tie.Need-enum-told-2 Inv-loop μ-loop
 enum-told-2 c = search needs
@@ -48,17 +62,21 @@ enum-told-3 c = search needs
 returns-2 : tie.Need-returns-2 Inv-loop μ-loop
 returns-2 c = search needs
 
+make-requires-2 : tie.Need-make-requires-2 Inv-loop μ-loop
+make-requires-2 c κs = held (c .before .before .before .before .before .before .before .before .before)
+
 add-turn : tie.Need-add-turn Inv-loop μ-loop
-add-turn c = omega arith
+add-turn c = omega (arith, c .before .before .before .before .before .before .before .before .before .before .before .before .before .before .before .before .before .before .before .before .before .loop-test .taken, c .before .before .before .before .before .before .before .before .before .before .before .before .before .before .before .before .before .before .before .before .before .before .before .before .before .before .before .fits)
 
 loop-less : tie.Need-loop-less Inv-loop μ-loop
-loop-less c = omega arith
+loop-less c = omega (arith, c .before .before .before .before .before .before .before .before .before .before .before .before .before .before .before .before .before .before .before .before .before .loop-test .taken)
 
 loop-again : tie.Need-loop-again Inv-loop μ-loop
 loop-again c =
-    let r = c .before .before .before in
-    let got = r .before .before .before .before in
-    (omega arith, ap (λ o. soundOf (o .arena)) (r .free-sound .ensures) ∙ free-sound (got .allocate-sound .result .arena) (held got) _ _ _)
+    let m = c .before .before .before .before .before .before .before .before .before .before in (
+      omega (arith, c .before .before .before .before .before .before .before .before .before .before .before .before .before .before .before .before .before .before .before .before .before .loop-test .taken),
+      ap soundOf (c .make2 .ensures) ∙ ap (λ o. soundOf (o .arena)) (c .before .before .before .before .before .before .free-ended .ensures) ∙ free-sound (made m) (held m) _ _ _,
+    )
 
 returns-3 : tie.Need-returns-3 Inv-loop μ-loop
 returns-3 c = search needs
@@ -70,14 +88,16 @@ free-turns-spec =
     Inv-loop
     μ-loop
     loop-holds
-    allocate-sound-requires
+    allocate-placed-requires
     enum-known-answer
     enum-told
     returns
-    free-sound-requires
+    make-requires
+    free-ended-requires
     enum-told-2
     enum-told-3
     returns-2
+    make-requires-2
     add-turn
     loop-less
     loop-again

@@ -1,25 +1,52 @@
--- `cost::inner::reset_turns` meets its contract: it is safe, and no more turns are taken than were asked for. What the allocate leaves is sound.
+-- `cost::inner::reset_turns` meets its contract: it is safe, and no more turns are taken than were asked for. The record stays sound.
 -- Assumes nothing.
 use Prim.Native.Nat.{_≤_, _-_}
 use native.Mathlib.Omega.{arith}
-use mathlib.Core.Path.{ap, _∙_}
+use mathlib.Core.Bool.{true}
+use mathlib.Core.Path.{_≡_, sym, ap, _∙_}
 use borrow.Author.Needs.{needs}
+use Rattle.arena.specs.declared.Arena.{Arena}
+use Rattle.arena.specs.declared.change.Change.the-variants.{Kept}
+use Rattle.arena.specs.Creation.{resetOf}
+use Rattle.arena.specs.Inner.{changedBy}
+use Rattle.arena.specs.Record.{recordOf}
 use Rattle.arena.specs.Sound.{soundOf}
+use Rattle.arena.proofs.Refusing.{sound-done}
+use Rattle.arena.proofs.StaysSound.{reset-sound}
 use Rattle.calls.proofs.StaysSound.{allocate-sound}
 use Rattle.cost.proofs.inner.reset_turns.Statement.{statement}
 use Rattle.cost.proofs.inner.reset_turns.Tie as tie
 
 abbrev Inv-loop : tie.InvT-loop
-Inv-loop a turns size last₀ turn₀ last turn = turn ≤ turns
+Inv-loop turns size head₀ starts₀ sizes₀ pointers₀ turn₀ head starts sizes pointers turn =
+    (turn ≤ turns) × (soundOf (recordOf head starts sizes pointers) ≡ true)
 
 abbrev μ-loop : tie.MeasureT-loop
-μ-loop a turns size last₀ turn₀ last turn = turns - turn
+μ-loop turns size head₀ starts₀ sizes₀ pointers₀ turn₀ head starts sizes pointers turn =
+    turns - turn
+
+-- the record at the loop's head, and what the first call leaves
+abbrev own : tie.At-loop Inv-loop μ-loop → Arena
+own l = recordOf (l .loop .head) (l .loop .starts) (l .loop .sizes) (l .loop .pointers)
+
+abbrev made : tie.After-make Inv-loop μ-loop → Arena
+made c = recordOf (c .make .result) (c .make .last .1 .0) (c .make .last .1 .1 .0) (c .make .last .1 .1 .1 .0)
+
+held : (c : tie.After-make Inv-loop μ-loop) → soundOf (made c) ≡ true
+held c =
+    let l = c .before .before .before .before .before .before .before .before .before .before .before in
+    ap soundOf (c .make .ensures) ∙ ap (λ o. soundOf (o .arena)) (c .before .before .before .before .before .before .allocate-placed .ensures) ∙ allocate-sound (own l) (l .loop .inv .1) _ _ _
+
+-- what the reset leaves
+kept-sound : (a : Arena) → soundOf a ≡ true → soundOf (changedBy Kept a) ≡ true
+unfolding changedBy resetOf
+kept-sound a s = ap (λ o. soundOf (o .arena)) (sym (sound-done a _ s)) ∙ reset-sound a s
 
 loop-holds : tie.Need-loop-holds Inv-loop μ-loop
 loop-holds c = search needs
 
-allocate-sound-requires : tie.Need-allocate-sound-requires Inv-loop μ-loop
-allocate-sound-requires c κs = search needs
+allocate-placed-requires : tie.Need-allocate-placed-requires Inv-loop μ-loop
+allocate-placed-requires c κs = search needs
 
 enum-told : tie.Need-enum-told Inv-loop μ-loop
 enum-told c = search needs
@@ -30,29 +57,23 @@ enum-told-2 c = search needs
 returns : tie.Need-returns Inv-loop μ-loop
 returns c = search needs
 
-kept-by-reset-requires : tie.Need-kept-by-reset-requires Inv-loop μ-loop
-kept-by-reset-requires c κs =
-    let r = c .before .before in
-    let s = r .before .before .before in
-    ap (λ o. soundOf (o .arena)) (r .allocate-sound .ensures) ∙ allocate-sound (s .args .a) (s .pre) _ _ _
+make-requires : tie.Need-make-requires Inv-loop μ-loop
+make-requires c κs = search needs
+
+make-requires-2 : tie.Need-make-requires-2 Inv-loop μ-loop
+make-requires-2 c κs = held (c .before .before .before)
 
 add-turn : tie.Need-add-turn Inv-loop μ-loop
-add-turn c = omega arith
+add-turn c = omega (arith, c .before .before .before .before .before .before .before .before .before .before .before .before .before .before .loop-test .taken, c .before .before .before .before .before .before .before .before .before .before .before .before .before .before .before .before .before .before .before .before .fits)
 
 loop-less : tie.Need-loop-less Inv-loop μ-loop
-loop-less c = omega arith
+loop-less c = omega (arith, c .before .before .before .before .before .before .before .before .before .before .before .before .before .before .loop-test .taken)
 
 loop-again : tie.Need-loop-again Inv-loop μ-loop
-loop-again c = search needs
-
-is-sound-requires : tie.Need-is-sound-requires Inv-loop μ-loop
-is-sound-requires c κs = search needs
+loop-again c = let m = c .before .before .before .before in (omega (arith, c .before .before .before .before .before .before .before .before .before .before .before .before .before .before .loop-test .taken), ap soundOf (c .make2 .ensures) ∙ kept-sound (made m) (held m))
 
 returns-2 : tie.Need-returns-2 Inv-loop μ-loop
 returns-2 c = search needs
-
-returns-3 : tie.Need-returns-3 Inv-loop μ-loop
-returns-3 c = search needs
 
 pub reset-turns-spec : {M : Type 1} → statement M
 reset-turns-spec =
@@ -61,14 +82,13 @@ reset-turns-spec =
     Inv-loop
     μ-loop
     loop-holds
-    allocate-sound-requires
+    allocate-placed-requires
     enum-told
     enum-told-2
     returns
-    kept-by-reset-requires
+    make-requires
+    make-requires-2
     add-turn
     loop-less
     loop-again
-    is-sound-requires
-    returns-2
-    returns-3)
+    returns-2)

@@ -1,25 +1,42 @@
--- `cost::inner::token_turns` meets its contract: it is safe, and no more turns are taken than were asked for. The record stays sound. Assumes nothing.
+-- `cost::inner::token_turns` meets its contract: it is safe, and no more turns are taken than were asked for. The record stays sound.
+-- Assumes nothing.
 use Prim.Native.Nat.{_≤_, _-_}
 use native.Mathlib.Omega.{arith}
 use mathlib.Core.Bool.{true}
 use mathlib.Core.Path.{_≡_, ap, _∙_}
 use borrow.Author.Needs.{needs}
+use Rattle.arena.specs.declared.Arena.{Arena}
+use Rattle.arena.specs.Record.{recordOf}
 use Rattle.arena.specs.Sound.{soundOf}
 use Rattle.calls.proofs.StaysSound.{with-token-sound}
 use Rattle.cost.proofs.inner.token_turns.Statement.{statement}
 use Rattle.cost.proofs.inner.token_turns.Tie as tie
 
 abbrev Inv-loop : tie.InvT-loop
-Inv-loop turns size now₀ turn₀ now turn = (turn ≤ turns) × (soundOf now ≡ true)
+Inv-loop turns size head₀ starts₀ sizes₀ pointers₀ turn₀ head starts sizes pointers turn =
+    (turn ≤ turns) × (soundOf (recordOf head starts sizes pointers) ≡ true)
 
 abbrev μ-loop : tie.MeasureT-loop
-μ-loop turns size now₀ turn₀ now turn = turns - turn
+μ-loop turns size head₀ starts₀ sizes₀ pointers₀ turn₀ head starts sizes pointers turn =
+    turns - turn
+
+-- the record at the loop's head, and what the first call leaves
+abbrev own : tie.At-loop Inv-loop μ-loop → Arena
+own l = recordOf (l .loop .head) (l .loop .starts) (l .loop .sizes) (l .loop .pointers)
+
+abbrev made : tie.After-make Inv-loop μ-loop → Arena
+made c = recordOf (c .make .result) (c .make .last .1 .0) (c .make .last .1 .1 .0) (c .make .last .1 .1 .1 .0)
+
+held : (c : tie.After-make Inv-loop μ-loop) → soundOf (made c) ≡ true
+held c =
+    let l = c .before .before .before .before .before .before .before .before .before .before .before in
+    ap soundOf (c .make .ensures) ∙ ap (λ o. soundOf (o .arena)) (c .before .before .before .before .before .before .allocate-with-token-placed .ensures) ∙ with-token-sound (own l) (l .loop .inv .1) _ _ _
 
 loop-holds : tie.Need-loop-holds Inv-loop μ-loop
 loop-holds c = search needs
 
-allocate-with-token-sound-requires : tie.Need-allocate-with-token-sound-requires Inv-loop μ-loop
-allocate-with-token-sound-requires c κs = search needs
+allocate-with-token-placed-requires : tie.Need-allocate-with-token-placed-requires Inv-loop μ-loop
+allocate-with-token-placed-requires c κs = search needs
 
 enum-told : tie.Need-enum-told Inv-loop μ-loop
 enum-told c = search needs
@@ -30,6 +47,9 @@ enum-told-2 c = search needs
 returns : tie.Need-returns Inv-loop μ-loop
 returns c = search needs
 
+make-requires : tie.Need-make-requires Inv-loop μ-loop
+make-requires c κs = search needs
+
 add-turn : tie.Need-add-turn Inv-loop μ-loop
 add-turn c = omega arith
 
@@ -37,10 +57,7 @@ loop-less : tie.Need-loop-less Inv-loop μ-loop
 loop-less c = omega arith
 
 loop-again : tie.Need-loop-again Inv-loop μ-loop
-loop-again c =
-    let r = c .before .before .before in
-    let l = r .before .before .loop in
-    (omega arith, ap (λ o. soundOf (o .arena)) (r .allocate-with-token-sound .ensures) ∙ with-token-sound (l .now) (l .inv .1) _ _ _)
+loop-again c = (omega arith, held c)
 
 returns-2 : tie.Need-returns-2 Inv-loop μ-loop
 returns-2 c = search needs
@@ -52,10 +69,11 @@ token-turns-spec =
     Inv-loop
     μ-loop
     loop-holds
-    allocate-with-token-sound-requires
+    allocate-with-token-placed-requires
     enum-told
     enum-told-2
     returns
+    make-requires
     add-turn
     loop-less
     loop-again
