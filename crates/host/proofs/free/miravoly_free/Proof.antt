@@ -1,0 +1,27 @@
+-- `host::free::miravoly_free` meets its contract (`Three.antt`). Assumes nothing.
+use Prim.Native.Nat.{ℕ}
+use contract.Running.{givenOf, tables, tablesOf}
+use denote.Triple.Spec.{tripleOf}
+use denote.Triple.Table.{entered, cited}
+use Rattle.arena.specs.declared.Arena.{Arena}
+use Rattle.calls.specs.Free.{freeOf}
+use Rattle.host.specs.declared.Stored.{Stored}
+use Rattle.host.specs.Said.{storedOf}
+use Rattle.host.proofs.Three as three
+use Rattle.host.proofs.free.free_by_value.Symbol as callee-def
+use Rattle.host.proofs.free.free_by_value.Symbol.{name as #host·free·free-by-value}
+use Rattle.host.proofs.free.free_by_value.Met as callee-thm
+use Rattle.host.proofs.free.miravoly_free as f
+use Rattle.host.proofs.free.miravoly_free.Key.{name as #host·free·miravoly-free}
+use Rattle.host.proofs.free.miravoly_free.Statement as stated
+use Rattle.host.proofs.free.miravoly_free.Code as code
+
+pub miravoly-free-spec : {M : Type 1} → stated.statement M
+unfolding code.routine tablesOf storedOf
+miravoly-free-spec 𝓤 H 𝓜 𝓖 𝓡 =
+    let says-of : Arena → ℕ → ℕ → ℕ → Stored = λ a x y z. storedOf (freeOf a x y z) in
+    let k = #host·free·free-by-value in
+    entered 𝓤 H (tripleOf 𝓤 H (𝓖 .A) f.signature (f.spec 𝓤 H (𝓖 .A) (𝓜 .mem) (𝓡 .run)))
+    (tables 𝓤 H 𝓜 𝓡 code.env .C) (tables 𝓤 H 𝓜 𝓡 code.env .Λ) #host·free·miravoly-free code.function (code.unfolded 𝓤 H 𝓜 𝓡)
+    (three.meets k says-of 𝓤 H (𝓖 .A) (givenOf 𝓤 H 𝓜 𝓖) (tablesOf 𝓤 H 𝓜 (tables 𝓤 H 𝓜 𝓡 code.env))
+    (cited 𝓤 H (three.Called k says-of 𝓤 H (𝓖 .A)) 𝓜 𝓡 code.env k callee-def.routine code.calls-host·free·free-by-value (callee-thm.met 𝓤 H 𝓜 𝓖 𝓡)))

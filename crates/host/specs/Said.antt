@@ -1,0 +1,31 @@
+-- What a call answers a host in plain numbers: document 01's number of the refusal, or 0, and the block's offset.
+use Prim.Native.Nat.{ℕ}
+use Rattle.arena.specs.declared.Answer.{Answer}
+use Rattle.arena.specs.declared.Answer.the-variants.{Done, Refused as REFUSED}
+use Rattle.arena.specs.declared.Outcome.{Outcome}
+use Rattle.arena.specs.Refusals.{numberOf}
+use Rattle.calls.specs.declared.Given.{Given}
+use Rattle.calls.specs.declared.Given.the-variants.{At, Refused}
+use Rattle.calls.specs.declared.Allocation.{Allocation}
+use Rattle.host.specs.declared.Said.{Said}
+use Rattle.host.specs.declared.Stored.{Stored}
+
+abbrev pub said : ℕ → ℕ → Said
+said refusal offset = record { refusal = refusal; offset = offset }
+
+-- of a call that gives out no block
+unfoldable pub saidOf : Answer → Said
+saidOf Done = said 0 0
+saidOf (REFUSED r) = said (numberOf r) 0
+
+-- of a call that gives one out
+unfoldable pub saidGiven : Given → Said
+saidGiven (At offset) = said 0 offset
+saidGiven (Refused r) = said (numberOf r) 0
+
+-- the answer, with the record that is stored
+unfoldable pub storedOf : Outcome → Stored
+storedOf o = record { said = saidOf (o .answer); arena = o .arena }
+
+unfoldable pub storedGiven : Allocation → Stored
+storedGiven got = record { said = saidGiven (got .answer); arena = got .arena }
