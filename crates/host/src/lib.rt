@@ -1,6 +1,9 @@
 // The calls for C and Rust: the arena's record is lent and changed in place, and what a call answers is plain numbers.
 mod answers;
+pub mod create;
 pub mod free;
+pub mod limit;
+pub mod reset;
 
 use arena::Arena;
 

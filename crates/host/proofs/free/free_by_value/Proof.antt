@@ -1,5 +1,5 @@
--- `host::free::free_by_value` meets its contract. Assumes nothing.
-use mathlib.Core.Path.{ap, _∙_}
+-- `host::free::free_by_value` meets its contract: free, with its answer in numbers. Assumes nothing.
+use mathlib.Core.Path.{_∙_, ap}
 use borrow.Author.Needs.{needs}
 use Rattle.host.specs.Said.{storedOf}
 use Rattle.host.proofs.free.free_by_value.Statement.{statement}

@@ -1,4 +1,4 @@
--- `host::free::miravoly_free` meets its contract (`Three.antt`). Assumes nothing.
+-- `host::free::miravoly_free` meets its contract, by the walk of `Three.antt`. Assumes nothing.
 use Prim.Native.Nat.{ℕ}
 use contract.Running.{givenOf, tables, tablesOf}
 use denote.Triple.Spec.{tripleOf}
@@ -11,17 +11,19 @@ use Rattle.host.proofs.Three as three
 use Rattle.host.proofs.free.free_by_value.Symbol as callee-def
 use Rattle.host.proofs.free.free_by_value.Symbol.{name as #host·free·free-by-value}
 use Rattle.host.proofs.free.free_by_value.Met as callee-thm
-use Rattle.host.proofs.free.miravoly_free as f
+use Rattle.host.proofs.free.miravoly_free as entry
 use Rattle.host.proofs.free.miravoly_free.Key.{name as #host·free·miravoly-free}
 use Rattle.host.proofs.free.miravoly_free.Statement as stated
 use Rattle.host.proofs.free.miravoly_free.Code as code
 
+-- what the call by value comes to
+abbrev says-of : Arena → ℕ → ℕ → ℕ → Stored
+says-of a offset size align = storedOf (freeOf a offset size align)
+
 pub miravoly-free-spec : {M : Type 1} → stated.statement M
 unfolding code.routine tablesOf storedOf
 miravoly-free-spec 𝓤 H 𝓜 𝓖 𝓡 =
-    let says-of : Arena → ℕ → ℕ → ℕ → Stored = λ a x y z. storedOf (freeOf a x y z) in
-    let k = #host·free·free-by-value in
-    entered 𝓤 H (tripleOf 𝓤 H (𝓖 .A) f.signature (f.spec 𝓤 H (𝓖 .A) (𝓜 .mem) (𝓡 .run)))
+    entered 𝓤 H (tripleOf 𝓤 H (𝓖 .A) entry.signature (entry.spec 𝓤 H (𝓖 .A) (𝓜 .mem) (𝓡 .run)))
     (tables 𝓤 H 𝓜 𝓡 code.env .C) (tables 𝓤 H 𝓜 𝓡 code.env .Λ) #host·free·miravoly-free code.function (code.unfolded 𝓤 H 𝓜 𝓡)
-    (three.meets k says-of 𝓤 H (𝓖 .A) (givenOf 𝓤 H 𝓜 𝓖) (tablesOf 𝓤 H 𝓜 (tables 𝓤 H 𝓜 𝓡 code.env))
-    (cited 𝓤 H (three.Called k says-of 𝓤 H (𝓖 .A)) 𝓜 𝓡 code.env k callee-def.routine code.calls-host·free·free-by-value (callee-thm.met 𝓤 H 𝓜 𝓖 𝓡)))
+    (three.meets #host·free·free-by-value says-of 𝓤 H (𝓖 .A) (givenOf 𝓤 H 𝓜 𝓖) (tablesOf 𝓤 H 𝓜 (tables 𝓤 H 𝓜 𝓡 code.env))
+    (cited 𝓤 H (three.Called #host·free·free-by-value says-of 𝓤 H (𝓖 .A)) 𝓜 𝓡 code.env #host·free·free-by-value callee-def.routine code.calls-host·free·free-by-value (callee-thm.met 𝓤 H 𝓜 𝓖 𝓡)))
