@@ -1,5 +1,5 @@
 -- What the walks of the entries share: how the record that is lent is opened, read, stored and closed, and how an `ensures` of several clauses is said. The walks are in `Zero`, `One`, `Three`, `New`, `Reading`, `Recording`, `Moving`, `Resizing`, `Copying` and `Filling`, by what an entry takes beside the record. Each serves every entry that takes the same.
---     mach, said-mach      the machine value of a record, and of what is answered.        typed-record, ..     it has the type's form
+--     mach, said-mach, token-mach      the machine value of a record, and of what is answered.        typed-record, ..     it has the type's form
 --     opens-record     the borrow of the record is opened, and the machine values are written out.        closes-record     it is closed at another record
 --     says-2, says-3   the facts that two and three `ensures` state
 -- Assumes nothing.
@@ -27,8 +27,11 @@ use Rattle.arena.specs.declared.Arena.{Arena}
 use Rattle.arena.proofs.Arena as T
 use Rattle.arena.proofs.Arena.Laws as T′
 use Rattle.host.specs.declared.Said.{Said}
+use Rattle.host.specs.declared.SaidToken.{SaidToken}
 use Rattle.host.proofs.Said as S
 use Rattle.host.proofs.Said.Laws as S′
+use Rattle.host.proofs.SaidToken as K
+use Rattle.host.proofs.SaidToken.Laws as K′
 
 abbrev pub mach : Arena → Val
 mach a = only (LL.vals T.the-type T′.the-laws a)
@@ -36,12 +39,18 @@ mach a = only (LL.vals T.the-type T′.the-laws a)
 abbrev pub said-mach : Said → Val
 said-mach s = only (LL.vals S.the-type S′.the-laws s)
 
+abbrev pub token-mach : SaidToken → Val
+token-mach s = only (LL.vals K.the-type K′.the-laws s)
+
 module _ {M : Type 1} (𝓤 : URA M) (H : Heap 𝓤) (A : Atoms 𝓤) (W : Given 𝓤 H A) where
   pub typed-record : (a : Arena) → Is T.the-row a (mach a ∷ []) → Holds (hasTy T′.mir (mach a)) × WT (mach a)
   typed-record a is = LL.lawful T.the-type T′.the-laws 𝓤 H A W .typed a _ is .0
 
   pub typed-said : (s : Said) → Is S.the-row s (said-mach s ∷ []) → Holds (hasTy S′.mir (said-mach s)) × WT (said-mach s)
   typed-said s is = LL.lawful S.the-type S′.the-laws 𝓤 H A W .typed s _ is .0
+
+  pub typed-token : (s : SaidToken) → Is K.the-row s (token-mach s ∷ []) → Holds (hasTy K′.mir (token-mach s)) × WT (token-mach s)
+  typed-token s is = LL.lawful K.the-type K′.the-laws 𝓤 H A W .typed s _ is .0
 
 module _ {M : Type 1} {𝓤 : URA M} {H : Heap 𝓤} {A : Atoms 𝓤} {K : Type 0} {W : Given 𝓤 H A} {Γ : List (Item 𝓤)} where
   module _ {G : Goal 𝓤 H} where

@@ -1,5 +1,11 @@
+pub mod Copying
+pub mod Filling
 pub mod Lent
+pub mod Moving
 pub mod New
 pub mod One
+pub mod Reading
+pub mod Recording
+pub mod Resizing
 pub mod Three
 pub mod Zero

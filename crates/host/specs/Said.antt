@@ -7,8 +7,11 @@ use Rattle.arena.specs.Refusals.{numberOf}
 use Rattle.calls.specs.declared.Given.{Given}
 use Rattle.calls.specs.declared.Given.the-variants.{At, Refused}
 use Rattle.calls.specs.declared.Allocation.{Allocation}
+use Rattle.calls.specs.declared.TokenAllocation.{TokenAllocation}
 use Rattle.host.specs.declared.Said.{Said}
+use Rattle.host.specs.declared.SaidToken.{SaidToken}
 use Rattle.host.specs.declared.Stored.{Stored}
+use Rattle.host.specs.declared.StoredToken.{StoredToken}
 
 abbrev pub said : ℕ → ℕ → Said
 said refusal offset = record { refusal = refusal; offset = offset }
@@ -23,9 +26,22 @@ unfoldable pub saidGiven : Given → Said
 saidGiven (At offset) = said 0 offset
 saidGiven (Refused r) = said (numberOf r) 0
 
+-- of one that records a token too
+unfoldable pub saidToken : TokenAllocation → SaidToken
+saidToken got =
+    record {
+      refusal = saidGiven (got .answer) .refusal;
+      offset = saidGiven (got .answer) .offset;
+      count = got .token .count;
+      pointer = got .token .pointer;
+    }
+
 -- the answer, with the record that is stored
 unfoldable pub storedOf : Outcome → Stored
 storedOf o = record { said = saidOf (o .answer); arena = o .arena }
 
 unfoldable pub storedGiven : Allocation → Stored
 storedGiven got = record { said = saidGiven (got .answer); arena = got .arena }
+
+unfoldable pub storedToken : TokenAllocation → StoredToken
+storedToken got = record { said = saidToken got; arena = got .arena }

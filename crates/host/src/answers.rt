@@ -1,14 +1,17 @@
 // The answers of the calls by value as plain numbers, with the record beside them.
 ghost use mathlib.Core.Path.{_≡_};
 ghost use Rattle.arena.specs.Refusals.{numberOf};
-ghost use Rattle.host.specs.Said.{saidOf, saidGiven, storedOf, storedGiven};
+ghost use Rattle.host.specs.Said.{saidOf, saidGiven, storedOf, storedGiven, storedToken};
 use crate::Said;
+use crate::SaidToken;
 use crate::Stored;
+use crate::StoredToken;
 use arena::Answer;
 use arena::Outcome;
 use arena::Refusal;
 use calls::Allocation;
 use calls::Given;
+use calls::TokenAllocation;
 
 pub fn number_of(r: Refusal) -> usize
     ensures { λ n. ⌜ n ≡ numberOf r ⌝ }
@@ -73,6 +76,23 @@ pub fn stored_given(got: Allocation) -> Stored
     let arena = got.arena;
     Stored {
         said: said_given(answer),
+        arena: arena,
+    }
+}
+
+pub fn stored_token(got: TokenAllocation) -> StoredToken
+    ensures { λ r. ⌜ r ≡ storedToken got ⌝ }
+{
+    let answer = got.answer;
+    let arena = got.arena;
+    let said = said_given(answer);
+    StoredToken {
+        said: SaidToken {
+            refusal: said.refusal,
+            offset: said.offset,
+            count: got.token.count,
+            pointer: got.token.pointer,
+        },
         arena: arena,
     }
 }

@@ -1,9 +1,15 @@
 // The calls for C and Rust: the arena's record is lent and changed in place, and what a call answers is plain numbers.
+pub mod allocate;
 mod answers;
 pub mod create;
 pub mod free;
+pub mod grow;
 pub mod limit;
 pub mod reset;
+pub mod resize;
+pub mod shrink;
+pub mod tokens;
+pub mod write;
 
 use arena::Arena;
 
@@ -14,8 +20,22 @@ pub struct Said {
     pub offset: usize,
 }
 
+// The same, with what the block's token records.
+#[repr(C)]
+pub struct SaidToken {
+    pub refusal: usize,
+    pub offset: usize,
+    pub count: usize,
+    pub pointer: usize,
+}
+
 // What an entry answers, and the record that it stores.
 pub struct Stored {
     pub said: Said,
+    pub arena: Arena,
+}
+
+pub struct StoredToken {
+    pub said: SaidToken,
     pub arena: Arena,
 }
