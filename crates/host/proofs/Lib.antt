@@ -1,6 +1,7 @@
 pub mod Copying
 pub mod Filling
 pub mod Lent
+pub mod Looking
 pub mod Moving
 pub mod New
 pub mod One

@@ -9,6 +9,7 @@ use Rattle.calls.specs.declared.Given.the-variants.{At, Refused}
 use Rattle.calls.specs.declared.Allocation.{Allocation}
 use Rattle.calls.specs.declared.TokenAllocation.{TokenAllocation}
 use Rattle.host.specs.declared.Said.{Said}
+use Rattle.host.specs.declared.SaidPart.{SaidPart}
 use Rattle.host.specs.declared.SaidToken.{SaidToken}
 use Rattle.host.specs.declared.Stored.{Stored}
 use Rattle.host.specs.declared.StoredToken.{StoredToken}
@@ -35,6 +36,14 @@ saidToken got =
       count = got .token .count;
       pointer = got .token .pointer;
     }
+
+-- of lending: the part, which is empty where it is refused
+abbrev pub saidAt : ℕ → ℕ → ℕ → SaidPart
+saidAt refusal offset length = record { refusal = refusal; offset = offset; length = length }
+
+unfoldable pub saidPart : Answer → ℕ → ℕ → SaidPart
+saidPart Done offset size = saidAt 0 offset size
+saidPart (REFUSED r) offset size = saidAt (numberOf r) 0 0
 
 -- the answer, with the record that is stored
 unfoldable pub storedOf : Outcome → Stored

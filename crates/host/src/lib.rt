@@ -4,6 +4,7 @@ mod answers;
 pub mod create;
 pub mod free;
 pub mod grow;
+pub mod lend;
 pub mod limit;
 pub mod reset;
 pub mod resize;
@@ -27,6 +28,14 @@ pub struct SaidToken {
     pub offset: usize,
     pub count: usize,
     pub pointer: usize,
+}
+
+// A refusal's number or 0, and the part of the region that is lent: 0 and 0 where it is refused.
+#[repr(C)]
+pub struct SaidPart {
+    pub refusal: usize,
+    pub offset: usize,
+    pub length: usize,
 }
 
 // What an entry answers, and the record that it stores.
