@@ -8,5 +8,7 @@ pub mod One
 pub mod Reading
 pub mod Recording
 pub mod Resizing
+pub mod Stepping
 pub mod Three
+pub mod Walking
 pub mod Zero

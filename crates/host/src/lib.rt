@@ -10,6 +10,7 @@ pub mod reset;
 pub mod resize;
 pub mod shrink;
 pub mod tokens;
+pub mod walk;
 pub mod write;
 
 use arena::Arena;
@@ -34,6 +35,15 @@ pub struct SaidToken {
 #[repr(C)]
 pub struct SaidPart {
     pub refusal: usize,
+    pub offset: usize,
+    pub length: usize,
+}
+
+// The same of a step of the walk, with the number of parts that are left, this one counted: 0 after the last.
+#[repr(C)]
+pub struct SaidStep {
+    pub refusal: usize,
+    pub left: usize,
     pub offset: usize,
     pub length: usize,
 }
