@@ -1,7 +1,11 @@
--- What the walks of the entries share: how the record that is lent is opened, read, stored and closed, and how an `ensures` of several clauses is said. The walks are in `Zero`, `One`, `Three`, `New`, `Reading`, `Recording`, `Moving`, `Resizing`, `Copying` and `Filling`, by what an entry takes beside the record. Each serves every entry that takes the same.
---     mach, said-mach, token-mach      the machine value of a record, and of what is answered.        typed-record, ..     it has the type's form
---     opens-record     the borrow of the record is opened, and the machine values are written out.        closes-record     it is closed at another record
---     says-2, says-3   the facts that two and three `ensures` state
+-- What the walks of the entries share: how the record that is lent is opened and closed, and how several `ensures` are said.
+--     mach, said-mach, token-mach                  the machine value of a record, and of what is answered
+--     typed-record, typed-said, typed-token        it has its type's form
+--     opens-record, closes-record                  the borrow of the record is opened, with its machine values written out; it is closed at another record
+--     says-2, says-3                               the facts that two and three `ensures` state
+-- The walks are `Zero`, `One`, `Three`, `New`, `Reading`, `Recording`, `Moving`, `Resizing`, `Copying` and `Filling`, and of entries that only read
+-- `Looking` and `Stepping`: one for each list of arguments, since a walk writes out the places of the locals. Each serves every entry with those
+-- arguments, whichever function by value it calls.
 -- Assumes nothing.
 use Prim.Native.Nat.{ℕ}
 use mathlib.Core.List.{[], _∷_, List}

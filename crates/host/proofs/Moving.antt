@@ -1,4 +1,5 @@
--- The walk of an entry that is lent the region for writing beside the record, and takes five numbers: `let got = f(*arena, region, x, y, z, u, w); *arena = got.arena; got.said`. The region is lent on, and a function of all tells the bytes that f leaves in it.
+-- The walk of an entry that is lent the region for writing beside the record, and takes five numbers: `let got = f(*arena, region, x, y, z, u,
+-- w); *arena = got.arena; got.said`. The region is lent on, and a function of all tells the bytes that f leaves in it.
 -- Assumes nothing.
 use mathlib.Core.Path.{_≡_, refl, ap}
 use Prim.Native.Nat.{ℕ, _<_, _^_}
@@ -11,7 +12,7 @@ use mir.Val.{Val, vint, vptr}
 use base.Logic.{SProp, ent, sep, emp, via, fst∗, id⊢}
 use base.Fml.{GName, Lft, Share, ftrue, fat, flft, fobs, fbor}
 use prog.Wp.{Heap, Calls, Loops, WpFn, Tables}
-use ghost.Atoms.{Atoms, sem}
+use ghost.Atoms.{Atoms}
 use contract.Monad.{fact}
 use types.Kit.{Given, ‵, raw, ⋆, _⊛_, some, later, _$_, _∵_, !, qed, by, move, keep, drop, use1, use3, split, join, pick, rewrite, fsplit, fsplit3, fjoin, fjoin3, feqI, feqL, suffices, frame, await, done}
 use types.Run.{look, look-raw, init, store-raw, forget, stop, hop, fld, from, load, addr, of-opd, and-then, no-more, assigns, land, returns, enter, alloc1, alloc0, params1, pass1, pass0, free1, free0}

@@ -1,4 +1,5 @@
--- The walk of an entry that makes a record of three numbers: `let got = f(x, y, z); *arena = got.arena; got.said`. What stood in the record that is lent is not read.
+-- The walk of an entry that makes a record of three numbers: `let got = f(x, y, z); *arena = got.arena; got.said`. What stood in the record that
+-- is lent is not read.
 -- Assumes nothing.
 use mathlib.Core.Path.{_≡_, refl, ap}
 use Prim.Native.Nat.{ℕ, _<_, _^_}
@@ -41,7 +42,7 @@ use Rattle.host.proofs.Said as S
 use Rattle.host.proofs.Said.Laws as S′
 use Rattle.host.proofs.Stored as D
 use Rattle.host.proofs.Stored.Laws as D′
-use Rattle.host.proofs.Lent.{mach, said-mach, typed-record, typed-said, opens-record, closes-record, says-2}
+use Rattle.host.proofs.Lent.{said-mach, typed-record, typed-said, opens-record, closes-record, says-2}
 
 -- the function that is called, and the entry
 abbrev pub callee : Ended

@@ -1,4 +1,5 @@
--- The walk of an entry that takes one number beside the record: `let got = f(*arena, x); *arena = got.arena; got.said`, for every f whose result a function of the two tells.
+-- The walk of an entry that takes one number beside the record: `let got = f(*arena, x); *arena = got.arena; got.said`, for every f whose result
+-- a function of the two tells.
 -- Assumes nothing.
 use mathlib.Core.Path.{_≡_, refl, ap}
 use Prim.Native.Nat.{ℕ, _<_, _^_}

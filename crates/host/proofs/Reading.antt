@@ -1,4 +1,5 @@
--- The walk of an entry that is lent the region beside the record, and takes two numbers: `let got = f(*arena, region, x, y); *arena = got.arena; got.said`. The region is lent on as it came.
+-- The walk of an entry that is lent the region beside the record, and takes two numbers: `let got = f(*arena, region, x, y); *arena = got.arena;
+-- got.said`. The region is lent on as it came.
 -- Assumes nothing.
 use mathlib.Core.Path.{_≡_, refl, ap}
 use Prim.Native.Nat.{ℕ, _<_, _^_}

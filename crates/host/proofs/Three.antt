@@ -1,4 +1,5 @@
--- The walk of an entry that takes three numbers beside the record: `let got = f(*arena, x, y, z); *arena = got.arena; got.said`, for every f whose result a function of the four tells.
+-- The walk of an entry that takes three numbers beside the record: `let got = f(*arena, x, y, z); *arena = got.arena; got.said`, for every f
+-- whose result a function of the four tells.
 -- Assumes nothing.
 use mathlib.Core.Path.{_≡_, refl, ap}
 use Prim.Native.Nat.{ℕ, _<_, _^_}

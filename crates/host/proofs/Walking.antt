@@ -19,7 +19,6 @@ use Rattle.arena.specs.Record.{endOf, chunkAt, chunksOf, heldOf}
 use Rattle.arena.specs.Refusals.{numberOf}
 use Rattle.arena.proofs.View.{length-chunks, chunks-newest, chunks-at}
 use Rattle.arena.proofs.Soundness.{ChunkSound, sound-open}
-use Rattle.calls.specs.Bytes.{part}
 use Rattle.calls.proofs.Testing.{Lent, lent-passes, tests-pass}
 use Rattle.host.specs.declared.SaidStep.{SaidStep}
 use Rattle.host.specs.Walk.{walkAnswer, chunkPart, partsOf, walkParts, step, saidStep, stepOf, stepPart, nextIndex, handedOut}

@@ -1,4 +1,5 @@
--- The walk of an entry that takes nothing beside the record: `let got = f(*arena); *arena = got.arena; got.said`, for every f whose result a function of the record tells.
+-- The walk of an entry that takes nothing beside the record: `let got = f(*arena); *arena = got.arena; got.said`, for every f whose result a
+-- function of the record tells.
 -- Assumes nothing.
 use mathlib.Core.Path.{_≡_, refl, ap}
 use Prim.Native.Nat.{ℕ}

@@ -124,15 +124,15 @@ pub fn moved<'r>(w: Walk<'r>) -> Walk<'r>
     }
 }
 
+fn walk_by_value(a: Arena, region: &[u8], index: usize) -> SaidStep
+    ensures { λ r. ⌜ r ≡ stepOf a (length (now (region .entry))) index ⌝ }
+{
+    step_in(a, region.len(), index)
+}
+
 #[no_mangle]
 pub extern "C" fn miravoly_walk(arena: &Arena, region: &[u8], index: usize) -> SaidStep
     ensures { λ r. ⌜ r ≡ stepOf (now (arena .entry)) (length (now (region .entry))) index ⌝ }
 {
     walk_by_value(*arena, region, index)
-}
-
-fn walk_by_value(a: Arena, region: &[u8], index: usize) -> SaidStep
-    ensures { λ r. ⌜ r ≡ stepOf a (length (now (region .entry))) index ⌝ }
-{
-    step_in(a, region.len(), index)
 }

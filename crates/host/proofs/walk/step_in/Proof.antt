@@ -1,5 +1,5 @@
 -- `host::walk::step_in` meets its contract: the chunk as far from the newest as the index says. Assumes nothing.
-use Prim.Native.Nat.{ℕ, _+_, _-_, _<_}
+use Prim.Native.Nat.{_-_, _<_}
 use native.Mathlib.Omega.{arith}
 use mathlib.Core.Path.{_≡_, sym, _∙_, ap, subst}
 use Rattle.arena.specs.declared.Answer.the-variants.{Done}
