@@ -8,6 +8,7 @@ pub mod One
 pub mod Reading
 pub mod Recording
 pub mod Resizing
+pub mod Saying
 pub mod Stepping
 pub mod Three
 pub mod Walking
