@@ -23,7 +23,7 @@ use Rattle.requests.specs.Bytes.{number32}
 use Rattle.requests.specs.Request.{requestBy, requestOf}
 use Rattle.requests.specs.Front.{recordFront, frontOf}
 use Rattle.requests.specs.Header.{goodHeader, headerOf, memoryFor}
-use Rattle.requests.specs.Parsed.{parsedFrom, parsedWithin, parsed}
+use Rattle.requests.specs.Parsed.{parsedFrom, parsedWithin, parsedOf}
 use Rattle.requests.specs.Run.{givenReply, answerReply, runIn, answers}
 use Rattle.requests.specs.Text.{digitsWithin, decimal, lineOf, endingLine, linesFrom, heldLine}
 use Rattle.requests.specs.Replay.{replayedBy, replayOf}
@@ -46,6 +46,6 @@ unfolding ones every any only seek first multiple oneBit roundDown roundUp nextP
     misses fits lowestPlace heldBytes currentSize firstBase smallLimit tried underLimit servedWith rungChunk ladder refusedCreation
     firstChunks createdWith creation createdOf keptByReset resetOf written carried afterGiven hasBlock acceptable atPointer chunkGives
     currentGives newChunkGives orLadder allocateIn given allocateOf freed freeOf grownInPlace orAfresh growIn growOf growBytes number32
-    requestBy requestOf recordFront frontOf goodHeader headerOf memoryFor parsedFrom parsedWithin parsed givenReply answerReply runIn
+    requestBy requestOf recordFront frontOf goodHeader headerOf memoryFor parsedFrom parsedWithin parsedOf givenReply answerReply runIn
     answers digitsWithin decimal lineOf endingLine linesFrom heldLine replayedBy replayOf
 examples = (refl, refl, refl, refl, refl, refl, refl)

@@ -15,7 +15,7 @@ use Rattle.requests.specs.Parsed.{badRecord, parsedFrom, parsedWithin}
 use Rattle.requests.specs.Run.{run, answers}
 use Rattle.requests.specs.Text.{lineOf, endingLine, linesFrom}
 use Rattle.requests.specs.Replay.{closed}
-use Rattle.requests.specs.Machine.{Machine, running, stopped, machine, recordFed, fedAt, fed, endingAt, endingText, ended}
+use Rattle.requests.specs.Machine.{Machine, running, stopped, machineAt, recordFed, fedAt, fed, endingAt, endingText, ended}
 use Rattle.requests.proofs.Settling.{front-stays, whole-size, unfinished-short, front-own}
 
 pub fed-append : (lent : List ℕ) (s : Machine) (p q : List ℕ) → fed lent s (p ++ q) ≡ fed lent (fed lent s p) q
@@ -25,21 +25,21 @@ fed-append lent s (b ∷ p) q = fed-append lent (fedAt lent (s .stage) s b) p q
 
 -- a stopped run swallows every byte
 pub fed-stopped : (lent : List ℕ) (n : ℕ) (m : Memory) (pending text bytes : List ℕ) →
-    fed lent (machine stopped n m pending text) bytes ≡ machine stopped n m pending text
+    fed lent (machineAt stopped n m pending text) bytes ≡ machineAt stopped n m pending text
 unfolding fed fedAt
 fed-stopped lent n m pending text [] = refl
 fed-stopped lent n m pending text (b ∷ bytes) = fed-stopped lent n m pending text bytes
 
 -- what a run comes to that has these bytes in hand, by what stands at their front
 unfoldable pub settled : List ℕ → Front → ℕ → Memory → List ℕ → List ℕ → Machine
-settled lent nothing n m bytes text = machine running n m bytes text
-settled lent part n m bytes text = machine running n m bytes text
-settled lent bad n m bytes text = machine stopped n m [] (text ++ endingLine n badRecord)
+settled lent nothing n m bytes text = machineAt running n m bytes text
+settled lent part n m bytes text = machineAt running n m bytes text
+settled lent bad n m bytes text = machineAt stopped n m [] (text ++ endingLine n badRecord)
 settled lent (whole size r) n m bytes text =
-    fed lent (machine running (n + 1) (run r m .memory) [] (text ++ lineOf n (run r m .reply))) (drop size bytes)
+    fed lent (machineAt running (n + 1) (run r m .memory) [] (text ++ lineOf n (run r m .reply))) (drop size bytes)
 
 pub settled-unfinished : (lent : List ℕ) (f : Front) (n : ℕ) (m : Memory) (bytes text : List ℕ) → unfinished f ≡ true →
-    settled lent f n m bytes text ≡ machine running n m bytes text
+    settled lent f n m bytes text ≡ machineAt running n m bytes text
 unfolding settled
 settled-unfinished lent nothing n m bytes text u = refl
 settled-unfinished lent part n m bytes text u = refl
@@ -56,7 +56,7 @@ past-record pending b bytes {size} u e =
 
 -- with each byte more the front is unfinished still, or settled for good
 pub run-on : (lent : List ℕ) (n : ℕ) (m : Memory) (pending bytes text : List ℕ) → unfinished (frontOf pending) ≡ true →
-    fed lent (machine running n m pending text) bytes ≡ settled lent (frontOf (pending ++ bytes)) n m (pending ++ bytes) text
+    fed lent (machineAt running n m pending text) bytes ≡ settled lent (frontOf (pending ++ bytes)) n m (pending ++ bytes) text
 unfolding fed fedAt recordFed settled
 run-on lent n m pending [] text u = rw append-nil (sym (settled-unfinished lent (frontOf pending) n m pending text u))
 run-on lent n m pending (b ∷ bytes) text u =
@@ -66,7 +66,7 @@ run-on lent n m pending (b ∷ bytes) text u =
     more = pending ++ (b ∷ [])
 
     go : (f : Front) → frontOf more ≡ f →
-        (unfinished (frontOf more) ≡ true → fed lent (machine running n m more text) bytes ≡ settled lent (frontOf (more ++ bytes)) n m (more ++ bytes) text) →
+        (unfinished (frontOf more) ≡ true → fed lent (machineAt running n m more text) bytes ≡ settled lent (frontOf (more ++ bytes)) n m (more ++ bytes) text) →
         fed lent (recordFed f n m more text) bytes ≡ settled lent (frontOf (more ++ bytes)) n m (more ++ bytes) text
     go nothing e again = again (ap unfinished e)
     go part e again = again (ap unfinished e)
@@ -76,7 +76,7 @@ run-on lent n m pending (b ∷ bytes) text u =
 -- the text of what the bytes say, from request n on, stands after the text so far
 unfoldable pub RunsOut : List ℕ → ℕ → ℕ → Memory → List ℕ → List ℕ → Type 0
 RunsOut lent turns n m bytes text =
-    ended (fed lent (machine running n m [] text) bytes)
+    ended (fed lent (machineAt running n m [] text) bytes)
     ≡ closed (text ++ linesFrom n (answers (parsedWithin turns bytes .requests) m .replies) (parsedWithin turns bytes .ending))
     (answers (parsedWithin turns bytes .requests) m .memory)
 
@@ -102,7 +102,7 @@ runs-out lent (suc turns) n m bytes text h = rw (run-on lent n m [] bytes text r
 
 -- the bytes of a whole record print its line and leave nothing pending
 pub record-fed : (lent : List ℕ) (n : ℕ) (m : Memory) (p text : List ℕ) {size : ℕ} {r : Request} → frontOf p ≡ whole size r →
-    fed lent (machine running n m [] text) (take size p) ≡ machine running (n + 1) (run r m .memory) [] (text ++ lineOf n (run r m .reply))
+    fed lent (machineAt running n m [] text) (take size p) ≡ machineAt running (n + 1) (run r m .memory) [] (text ++ lineOf n (run r m .reply))
 unfolding fed settled
 record-fed lent n m p text {size} {r} e =
     rw (run-on lent n m [] (take size p) text (unfold frontOf in refl), front-own p e, drop-of-length-le (take size p) {i = size} (le-of-eq (length-take-le size p (whole-size p e .1))))

@@ -25,7 +25,7 @@ use Rattle.requests.specs.declared.machine.State.{State}
 use Rattle.requests.specs.declared.machine.Fed.{Fed}
 use Rattle.requests.specs.Bytes.{byteAt, number32}
 use Rattle.requests.specs.Header.{Header, Memory, headerSize, mostRegion, goodHeader, headerOf, memoryFor}
-use Rattle.requests.specs.Machine.{Stage, heading, running, stopped, machine, headed}
+use Rattle.requests.specs.Machine.{Stage, heading, running, stopped, machineAt, headed}
 use Rattle.requests.specs.Front.{frontOf}
 use Rattle.requests.specs.Text.{decimal, badRecordText, endingLine}
 use Rattle.requests.specs.Inner.{Put}
@@ -35,7 +35,7 @@ use Rattle.requests.proofs.Putting.{put-then}
 use Rattle.requests.specs.declared.window.Progress.{Progress}
 use Rattle.requests.specs.Window.{memoryOf, Passed, lineRoom, passedWithin, passedOf, Through}
 use Rattle.requests.proofs.Windows.{Runs, passed-runs}
-use Rattle.requests.specs.Feed.{Stepped, stepped, stays, isBad, afterPassed, badNext, runStep, stepAt, lastNumber, ready, stepOf, stageSaid, memoryIn, ThroughLent, Came}
+use Rattle.requests.specs.Feed.{Stepped, steppedTo, stays, isBad, afterPassed, badNext, runStep, stepAt, lastNumber, ready, stepOf, stageSaid, memoryIn, ThroughLent, Came}
 
 -- nothing is put
 pub put-none : (out : List ℕ) → Put out 0 [] out 0
@@ -45,7 +45,7 @@ put-none out = record { bytes = refl; moved = refl }
 -- a state that stays, and nothing written
 pub came-still : {stage : Stage} {taken : ℕ} (s : State) (got : Fed) (lent out : List ℕ) → stageSaid (s .stage) ≡ stage →
     (got .state ≡ s) × (got .taken ≡ taken) × (got .written ≡ 0) →
-    Came (stepped (machine stage (s .number) (memoryIn (s .arena) lent) [] []) taken) lent out got lent out
+    Came (steppedTo (machineAt stage (s .number) (memoryIn (s .arena) lent) [] []) taken) lent out got lent out
 came-still s got lent out e g =
     record {
       stage = ap (λ (x : State). stageSaid (x .stage)) (g .0) ∙ e;
@@ -66,7 +66,7 @@ module _ (lent : List ℕ) (n : ℕ) (m : Memory) (window : List ℕ) (room : �
   heading-no-room h r = rw (le-leb headerSize (length window) h, lt-leb lineRoom room r)
 
   pub heading-opens : {o : Option Header} → headerSize ≤ length window → lineRoom ≤ room → headerOf window ≡ o →
-      stepAt heading lent n m window room ≡ stepped (headed lent o) headerSize
+      stepAt heading lent n m window room ≡ steppedTo (headed lent o) headerSize
   unfolding stepAt
   heading-opens h r e = rw (le-leb headerSize (length window) h, le-leb lineRoom room r, e)
 
@@ -225,7 +225,7 @@ unfolding stepAt headed
 heading-inside lent n m window room = go (leb headerSize (length window)) refl (leb lineRoom room) refl (headerOf window)
   where
     go : (a : Bool) → leb headerSize (length window) ≡ a → (b : Bool) → leb lineRoom room ≡ b → (o : Option Header) →
-        Inside (cond (a && b) (stepped (headed lent o) headerSize) (stays heading n m)) window room
+        Inside (cond (a && b) (steppedTo (headed lent o) headerSize) (stays heading n m)) window room
     go false x b y o = stays-inside heading n m window room
     go true x false y o = stays-inside heading n m window room
     go true x true y none = record { taken = leb-true headerSize (length window) x; text = omega (arith, leb-true lineRoom room y) }

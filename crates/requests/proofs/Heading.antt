@@ -13,7 +13,7 @@ use Rattle.rounding.specs.First.{only}
 use Rattle.arena.specs.Sound.{allowedMinimum}
 use Rattle.requests.specs.Bytes.{byteAt, number32}
 use Rattle.requests.specs.Header.{headerSize, mostRegion, goodHeader, headerOf, memoryFor}
-use Rattle.requests.specs.Machine.{Machine, heading, machine, headed, headerFed, fedAt, fed}
+use Rattle.requests.specs.Machine.{Machine, heading, machineAt, headed, headerFed, fedAt, fed}
 
 pub header-stays : (p q : List ℕ) → headerSize ≤ length p → headerOf (p ++ q) ≡ headerOf p
 unfolding headerOf goodHeader number32
@@ -44,11 +44,11 @@ header-by p h v m r = rw (le-leb headerSize (length p) h, v, m, r)
 unfoldable pub openedBy : List ℕ → List ℕ → Machine
 openedBy lent bytes =
     cond (ltb (length bytes) headerSize)
-    (machine heading 1 (memoryFor lent none) bytes [])
+    (machineAt heading 1 (memoryFor lent none) bytes [])
     (fed lent (headed lent (headerOf bytes)) (drop headerSize bytes))
 
 head-on : (lent pending bytes : List ℕ) → length pending < headerSize →
-    fed lent (machine heading 1 (memoryFor lent none) pending []) bytes ≡ openedBy lent (pending ++ bytes)
+    fed lent (machineAt heading 1 (memoryFor lent none) pending []) bytes ≡ openedBy lent (pending ++ bytes)
 unfolding fed fedAt headerFed openedBy
 head-on lent pending [] h = rw (append-nil pending, lt-ltb (length pending) headerSize h)
 head-on lent pending (b ∷ bytes) h =
@@ -59,13 +59,13 @@ head-on lent pending (b ∷ bytes) h =
     more = pending ++ (b ∷ [])
 
     go : (t : Bool) → ltb (length more) headerSize ≡ t →
-        (length more < headerSize → fed lent (machine heading 1 (memoryFor lent none) more []) bytes ≡ openedBy lent (more ++ bytes)) →
-        fed lent (cond t (machine heading 1 (memoryFor lent none) more []) (headed lent (headerOf more))) bytes ≡ openedBy lent (more ++ bytes)
+        (length more < headerSize → fed lent (machineAt heading 1 (memoryFor lent none) more []) bytes ≡ openedBy lent (more ++ bytes)) →
+        fed lent (cond t (machineAt heading 1 (memoryFor lent none) more []) (headed lent (headerOf more))) bytes ≡ openedBy lent (more ++ bytes)
     go true t again = again (ltb-true (length more) headerSize t)
     go false t again =
         let enough : headerSize ≤ length more = ltb-false (length more) headerSize t in
         let exact : length more ≡ headerSize = omega (arith, length-append pending (b ∷ [])) in
         rw (le-ltb (length (more ++ bytes)) headerSize (omega (arith, length-append more bytes)), header-stays more bytes enough, drop-at more bytes headerSize exact)
 
-pub opened : (lent bytes : List ℕ) → fed lent (machine heading 1 (memoryFor lent none) [] []) bytes ≡ openedBy lent bytes
+pub opened : (lent bytes : List ℕ) → fed lent (machineAt heading 1 (memoryFor lent none) [] []) bytes ≡ openedBy lent bytes
 opened lent bytes = head-on lent [] bytes (omega arith)

@@ -17,10 +17,10 @@ use Rattle.requests.specs.Header.{Header, Memory, headerSize, headerOf, 
 use Rattle.requests.specs.Parsed.{badRecord}
 use Rattle.requests.specs.Text.{endingLine}
 use Rattle.requests.specs.Replay.{closed}
-use Rattle.requests.specs.Machine.{Stage, heading, running, stopped, Machine, machine, start, headed, fedAt, fed, endingText, ended}
+use Rattle.requests.specs.Machine.{Stage, heading, running, stopped, Machine, machineAt, start, headed, fedAt, fed, endingText, ended}
 use Rattle.requests.specs.Request.{Request}
-use Rattle.requests.specs.Window.{Passed, passed, lineRoom, passedWithin, passedOf}
-use Rattle.requests.specs.Feed.{Stepped, stepped, stays, isBad, afterPassed, badNext, runStep, stepAt}
+use Rattle.requests.specs.Window.{Passed, passedTo, lineRoom, passedWithin, passedOf}
+use Rattle.requests.specs.Feed.{Stepped, steppedTo, stays, isBad, afterPassed, badNext, runStep, stepAt}
 use Rattle.requests.specs.Pieces.{Piece, Gone, begun, after, goneOn, isRest, AnyPieces, NothingTaken}
 use Rattle.requests.proofs.Feeding.{fed-append, fed-stopped, settled, settled-unfinished, run-on}
 use Rattle.requests.proofs.Heading.{header-stays, openedBy, opened}
@@ -37,17 +37,17 @@ Fresh stopped lent m text = Unit
 
 -- the machine that a step comes to, its text after the text so far
 abbrev onto : List ℕ → Stepped → Machine
-onto text s = machine (s .after .stage) (s .after .number) (s .after .memory) [] (text ++ s .after .text)
+onto text s = machineAt (s .after .stage) (s .after .number) (s .after .memory) [] (text ++ s .after .text)
 
 Feeds : Stage → List ℕ → ℕ → Memory → List ℕ → List ℕ → Stepped → Type 0
-Feeds stage lent n m window text s = (fed lent (machine stage n m [] text) (take (s .taken) window) ≡ onto text s) × Fresh (s .after .stage) lent (s .after .memory) (text ++ s .after .text)
+Feeds stage lent n m window text s = (fed lent (machineAt stage n m [] text) (take (s .taken) window) ≡ onto text s) × Fresh (s .after .stage) lent (s .after .memory) (text ++ s .after .text)
 
 feeds-none : (stage : Stage) (lent : List ℕ) (n : ℕ) (m : Memory) (window text : List ℕ) → Fresh stage lent m text → Feeds stage lent n m window text (stays stage n m)
 unfolding fed Feeds
-feeds-none stage lent n m window text f = (ap (machine stage n m []) (sym (append-nil text)), rw append-nil f)
+feeds-none stage lent n m window text f = (ap (machineAt stage n m []) (sym (append-nil text)), rw append-nil f)
 
 -- the first byte forgets what stood before it
-header-starts : (lent : List ℕ) (n : ℕ) (m : Memory) (bytes : List ℕ) → 0 < length bytes → fed lent (machine heading n m [] []) bytes ≡ fed lent (start lent) bytes
+header-starts : (lent : List ℕ) (n : ℕ) (m : Memory) (bytes : List ℕ) → 0 < length bytes → fed lent (machineAt heading n m [] []) bytes ≡ fed lent (start lent) bytes
 unfolding fed fedAt
 header-starts lent n m [] h = absurd (omega arith)
 header-starts lent n m (b ∷ bytes) h = refl
@@ -56,13 +56,13 @@ opened-six : (lent bytes : List ℕ) → length bytes ≡ headerSize → openedB
 unfolding openedBy fed
 opened-six lent bytes e = rw (le-ltb (length bytes) headerSize (omega (arith, e)), drop-of-length-le bytes {i = headerSize} (le-of-eq e))
 
-opened-short : (lent bytes : List ℕ) → length bytes < headerSize → openedBy lent bytes ≡ machine heading 1 (memoryFor lent none) bytes []
+opened-short : (lent bytes : List ℕ) → length bytes < headerSize → openedBy lent bytes ≡ machineAt heading 1 (memoryFor lent none) bytes []
 unfolding openedBy
 opened-short lent bytes h = rw (lt-ltb (length bytes) headerSize h)
 
 -- the header's six bytes
 header-fed : (lent : List ℕ) (n : ℕ) (m : Memory) (window : List ℕ) → headerSize ≤ length window →
-    fed lent (machine heading n m [] []) (take headerSize window) ≡ headed lent (headerOf window)
+    fed lent (machineAt heading n m [] []) (take headerSize window) ≡ headed lent (headerOf window)
 header-fed lent n m window h =
     let six : length (take headerSize window) ≡ headerSize = length-take-le headerSize window h in
     header-starts lent n m (take headerSize window) (omega (arith, six))
@@ -76,7 +76,7 @@ unfolding headed
 headed-fresh lent none = tt
 headed-fresh lent (some h) = tt
 
-headed-settled : (lent : List ℕ) (o : Option Header) (k : ℕ) → headed lent o ≡ onto [] (stepped (headed lent o) k)
+headed-settled : (lent : List ℕ) (o : Option Header) (k : ℕ) → headed lent o ≡ onto [] (steppedTo (headed lent o) k)
 unfolding headed
 headed-settled lent none k = refl
 headed-settled lent (some h) k = refl
@@ -86,7 +86,7 @@ unfolding stepAt Feeds
 heading-feeds lent n m window room none-yet = go (leb headerSize (length window)) refl (leb lineRoom room)
   where
     go : (a : Bool) → leb headerSize (length window) ≡ a → (b : Bool) →
-        Feeds heading lent n m window [] (cond (a && b) (stepped (headed lent (headerOf window)) headerSize) (stays heading n m))
+        Feeds heading lent n m window [] (cond (a && b) (steppedTo (headed lent (headerOf window)) headerSize) (stays heading n m))
     go false x b = feeds-none heading lent n m window [] (none-yet, refl)
     go true x false = feeds-none heading lent n m window [] (none-yet, refl)
     go true x true =
@@ -94,11 +94,11 @@ heading-feeds lent n m window room none-yet = go (leb headerSize (length window)
 
 -- a bad record after those that were passed
 bad-fed : (lent : List ℕ) (n : ℕ) (m : Memory) (rest text : List ℕ) → isBad (frontOf rest) ≡ true →
-    fed lent (machine running n m [] text) rest ≡ machine stopped n m [] (text ++ endingLine n badRecord)
+    fed lent (machineAt running n m [] text) rest ≡ machineAt stopped n m [] (text ++ endingLine n badRecord)
 unfolding settled
 bad-fed lent n m rest text b = run-on lent n m [] rest text (unfold frontOf in refl) ∙ go (frontOf rest) b
   where
-    go : (f : Front) → isBad f ≡ true → settled lent f n m rest text ≡ machine stopped n m [] (text ++ endingLine n badRecord)
+    go : (f : Front) → isBad f ≡ true → settled lent f n m rest text ≡ machineAt stopped n m [] (text ++ endingLine n badRecord)
     go nothing b = cc
     go part b = cc
     go bad b = refl
@@ -115,11 +115,11 @@ running-feeds lent n m window text room =
     by p h true e =
         let rest = drop (p .taken) window in
         let so-far = text ++ p .text in (
-          ap (fed lent (machine running n m [] text)) (take-all (length window) window (le-refl (length window)) ∙ sym (take-append-drop (p .taken) window))
-              ∙ fed-append lent (machine running n m [] text) (take (p .taken) window) rest
+          ap (fed lent (machineAt running n m [] text)) (take-all (length window) window (le-refl (length window)) ∙ sym (take-append-drop (p .taken) window))
+              ∙ fed-append lent (machineAt running n m [] text) (take (p .taken) window) rest
               ∙ ap (λ (s : Machine). fed lent s rest) (h .comes lent text)
               ∙ bad-fed lent (p .number) (p .memory) rest so-far (and-right (leb lineRoom (room - length (p .text))) (isBad (frontOf rest)) e)
-              ∙ ap (machine stopped (p .number) (p .memory) []) (append-assoc text (p .text) (endingLine (p .number) badRecord)),
+              ∙ ap (machineAt stopped (p .number) (p .memory) []) (append-assoc text (p .text) (endingLine (p .number) badRecord)),
           tt,
         )
 
@@ -132,11 +132,11 @@ unfolding stepAt Feeds
 step-feeds heading lent n m window text room f = rw (f .1) (heading-feeds lent n m window room (f .0))
 step-feeds running lent n m window text room f = running-feeds lent n m window text room
 step-feeds stopped lent n m window text room f =
-    (fed-stopped lent n m [] text (take (length window) window) ∙ ap (machine stopped n m []) (sym (append-nil text)), tt)
+    (fed-stopped lent n m [] text (take (length window) window) ∙ ap (machineAt stopped n m []) (sym (append-nil text)), tt)
 
 -- where the machine stands after the bytes that were taken
 Stands : List ℕ → Gone → Type 0
-Stands lent g = (fed lent (start lent) (g .taken) ≡ machine (g .stage) (g .number) (g .memory) [] (g .text)) × Fresh (g .stage) lent (g .memory) (g .text)
+Stands lent g = (fed lent (start lent) (g .taken) ≡ machineAt (g .stage) (g .number) (g .memory) [] (g .text)) × Fresh (g .stage) lent (g .memory) (g .text)
 
 stands-after : (lent : List ℕ) (g : Gone) (window : List ℕ) (room : ℕ) → Stands lent g →
     Stands lent (after g window (stepAt (g .stage) lent (g .number) (g .memory) window room))
@@ -156,7 +156,7 @@ stands-on lent g (p ∷ ps) h =
 
 -- the bytes that are left end the run as they stand
 rest-ends : (stage : Stage) (lent : List ℕ) (n : ℕ) (m : Memory) (text rest : List ℕ) → Fresh stage lent m text → isRest stage rest ≡ true →
-    ended (fed lent (machine stage n m [] text) rest) ≡ closed (text ++ endingText stage n rest) m
+    ended (fed lent (machineAt stage n m [] text) rest) ≡ closed (text ++ endingText stage n rest) m
 unfolding isRest ended endingText
 rest-ends heading lent n m text [] f r = unfold fed in refl
 rest-ends heading lent n m text (b ∷ rest) f r =
@@ -191,7 +191,7 @@ none-passed room window p h = go (badNext room window p)
     go false e = e
 
 -- nor does a bad record stand at the front
-bad-taken : (room n : ℕ) (m : Memory) (window : List ℕ) → lineRoom ≤ room → frontOf window ≡ bad → runStep room window (passed n m 0 []) .taken ≡ length window
+bad-taken : (room n : ℕ) (m : Memory) (window : List ℕ) → lineRoom ≤ room → frontOf window ≡ bad → runStep room window (passedTo n m 0 []) .taken ≡ length window
 unfolding runStep afterPassed
 bad-taken room n m window h e = rw (e, le-leb lineRoom (room - 0) (omega (arith, h)))
 
@@ -239,7 +239,7 @@ unfolding stepAt
 heading-rest lent n m window room enough e = go (leb headerSize (length window)) refl (leb lineRoom room) (le-leb lineRoom room enough) e
   where
     go : (a : Bool) → leb headerSize (length window) ≡ a → (b : Bool) → b ≡ true →
-        cond (a && b) (stepped (headed lent (headerOf window)) headerSize) (stays heading n m) .taken ≡ 0 → ltb (length window) headerSize ≡ true
+        cond (a && b) (steppedTo (headed lent (headerOf window)) headerSize) (stays heading n m) .taken ≡ 0 → ltb (length window) headerSize ≡ true
     go false x b y z = lt-ltb (length window) headerSize (leb-false headerSize (length window) x)
     go true x true y z = absurd (omega (arith, z))
     go true x false y z = cc

@@ -21,7 +21,7 @@ use Rattle.requests.specs.Machine.{Stage, heading, running, stopped, hea
 use Rattle.requests.specs.Text.{heldLine}
 use Rattle.requests.specs.Replay.{Replayed}
 use Rattle.requests.specs.Window.{Passed, lineRoom, passedWithin, passedOf}
-use Rattle.requests.specs.Feed.{Stepped, stepped, stays, afterPassed, badNext, runStep, stepAt, lastNumber, ready, stepOf, finalText}
+use Rattle.requests.specs.Feed.{Stepped, steppedTo, stays, afterPassed, badNext, runStep, stepAt, lastNumber, ready, stepOf, finalText}
 use Rattle.requests.specs.Pieces.{Piece, Gone, begun, after, goneOn, AnyPieces, StaysReady, WholeText}
 use Rattle.requests.proofs.Feeds.{fresh-settings, header-sound, header-region, step-inside}
 use Rattle.requests.proofs.Windows.{Runs, passed-runs}
@@ -44,7 +44,7 @@ able-none lent bytes =
 able-later : {m : Memory} {n bytes more : ℕ} → Able m n bytes → bytes ≤ more → Able m n more
 able-later a l = record { sound = a .sound; region = a .region; counted = omega (arith, a .counted) }
 
-able-headed : (lent bytes : List ℕ) (k : ℕ) (o : Option Header) → headerOf bytes ≡ o → AbleAfter k (stepped (headed lent o) headerSize)
+able-headed : (lent bytes : List ℕ) (k : ℕ) (o : Option Header) → headerOf bytes ≡ o → AbleAfter k (steppedTo (headed lent o) headerSize)
 unfolding AbleAfter headed memoryFor
 able-headed lent bytes k none e = able-none lent (k + headerSize)
 able-headed lent bytes k (some h) e =
@@ -54,7 +54,7 @@ able-heading : (lent : List ℕ) (n : ℕ) (m : Memory) (window : List ℕ) (roo
 unfolding stepAt AbleAfter
 able-heading lent n m window room k a = go (leb headerSize (length window) && leb lineRoom room)
   where
-    go : (b : Bool) → AbleAfter k (cond b (stepped (headed lent (headerOf window)) headerSize) (stays heading n m))
+    go : (b : Bool) → AbleAfter k (cond b (steppedTo (headed lent (headerOf window)) headerSize) (stays heading n m))
     go true = able-headed lent window k (headerOf window) refl
     go false = able-later a (omega arith)
 

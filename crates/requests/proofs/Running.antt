@@ -13,12 +13,12 @@ use Rattle.calls.specs.declared.TokenAllocation.{TokenAllocation}
 use Rattle.calls.specs.declared.TokenPlaced.{TokenPlaced}
 use Rattle.calls.specs.Inner.{placedOf, tokenPlacedOf, endedOf}
 use Rattle.requests.specs.declared.run.Ran.{Ran}
-use Rattle.requests.specs.Run.{Reply, givenReply, answerReply, ran, gave, did}
+use Rattle.requests.specs.Run.{Reply, givenReply, answerReply, ranTo, gave, did}
 use Rattle.requests.specs.Inner.{replySaid, ranSaid}
 
 module _ (a : Arena) (r : Ran) {after bytes : List ℕ} where
   said : {reply : Reply} {change : Change} {arena : Arena} → replySaid (r .reply) ≡ reply → r .change ≡ change → changedBy change a ≡ arena →
-      after ≡ bytes → ranSaid a r after ≡ ran reply arena bytes
+      after ≡ bytes → ranSaid a r after ≡ ranTo reply arena bytes
   unfolding ranSaid
   said p e f b = λ i. record { reply = p i; memory = record { arena = (ap (λ (c : Change). changedBy c a) e ∙ f) i; bytes = b i } }
 
@@ -34,5 +34,5 @@ module _ (a : Arena) (r : Ran) {after bytes : List ℕ} where
 
   pub token-said : {got : TokenPlaced} {want : TokenAllocation} →
       (replySaid (r .reply) ≡ givenReply (got .answer)) × (r .change ≡ got .change) → tokenPlacedOf a got ≡ want → after ≡ bytes →
-      ranSaid a r after ≡ ran (givenReply (want .answer)) (want .arena) bytes
+      ranSaid a r after ≡ ranTo (givenReply (want .answer)) (want .arena) bytes
   token-said e g b = said (e .0 ∙ ap (λ (w : TokenAllocation). givenReply (w .answer)) g) (e .1) (ap (λ (w : TokenAllocation). w .arena) g) b

@@ -10,7 +10,7 @@ use lib.Dec.{leb}
 use lib.ListN.{length, take, drop, length-append, take-append-drop}
 use lib.Seq.{take-append-le, length-take-le}
 use borrow.Author.Tests.{le-leb, lt-leb, leb-true, leb-false}
-use Rattle.requests.specs.Bytes.{byteAt, number16}
+use Rattle.requests.specs.Bytes.{byteAt, thenByte}
 use Rattle.requests.specs.Request.{Request, requestOf}
 use Rattle.requests.specs.Front.{nothing, part, whole, unfinished, recordFront, frontOf}
 
@@ -27,14 +27,14 @@ record-size n (some x) e = cc
 
 -- a record takes its length number and the bytes after it, which are there
 sized : (high low : ℕ) (rest : List ℕ) {size : ℕ} {r : Request} → frontOf (high ∷ (low ∷ rest)) ≡ whole size r →
-    (size ≡ 2 + number16 high low) × (number16 high low ≤ length rest)
+    (size ≡ 2 + thenByte high low) × (thenByte high low ≤ length rest)
 unfolding frontOf
-sized high low rest {size} {r} = go (leb (number16 high low) (length rest)) refl
+sized high low rest {size} {r} = go (leb (thenByte high low) (length rest)) refl
   where
-    go : (b : Bool) → leb (number16 high low) (length rest) ≡ b →
-        cond b (recordFront (number16 high low) (requestOf (take (number16 high low) rest))) part ≡ whole size r →
-        (size ≡ 2 + number16 high low) × (number16 high low ≤ length rest)
-    go true t e = (record-size (number16 high low) (requestOf (take (number16 high low) rest)) e, leb-true (number16 high low) (length rest) t)
+    go : (b : Bool) → leb (thenByte high low) (length rest) ≡ b →
+        cond b (recordFront (thenByte high low) (requestOf (take (thenByte high low) rest))) part ≡ whole size r →
+        (size ≡ 2 + thenByte high low) × (thenByte high low ≤ length rest)
+    go true t e = (record-size (thenByte high low) (requestOf (take (thenByte high low) rest)) e, leb-true (thenByte high low) (length rest) t)
     go false t e = let z : _≡_ {A = ℕ} 0 1 = cc in absurd (omega arith)
 
 pub whole-size : (p : List ℕ) {size : ℕ} {r : Request} → frontOf p ≡ whole size r → (2 ≤ size) × (size ≤ length p)
@@ -47,10 +47,10 @@ pub front-stays : (p q : List ℕ) → unfinished (frontOf p) ≡ false → fron
 unfolding frontOf
 front-stays [] q u = cc
 front-stays (high ∷ []) q u = cc
-front-stays (high ∷ (low ∷ rest)) q u = go (leb (number16 high low) (length rest)) refl u
+front-stays (high ∷ (low ∷ rest)) q u = go (leb (thenByte high low) (length rest)) refl u
   where
     n : ℕ
-    n = number16 high low
+    n = thenByte high low
 
     go : (b : Bool) → leb n (length rest) ≡ b → unfinished (cond b (recordFront n (requestOf (take n rest))) part) ≡ false →
         cond (leb n (length (rest ++ q))) (recordFront n (requestOf (take n (rest ++ q)))) part ≡ cond b (recordFront n (requestOf (take n rest))) part
@@ -60,16 +60,16 @@ front-stays (high ∷ (low ∷ rest)) q u = go (leb (number16 high low) (length 
     go false t u = cc
 
 -- of an unfinished record some of the bytes after its length number are missing
-rest-short : (high low : ℕ) (rest : List ℕ) → unfinished (frontOf (high ∷ (low ∷ rest))) ≡ true → length rest < number16 high low
+rest-short : (high low : ℕ) (rest : List ℕ) → unfinished (frontOf (high ∷ (low ∷ rest))) ≡ true → length rest < thenByte high low
 unfolding frontOf
-rest-short high low rest = go (leb (number16 high low) (length rest)) refl
+rest-short high low rest = go (leb (thenByte high low) (length rest)) refl
   where
-    go : (b : Bool) → leb (number16 high low) (length rest) ≡ b →
-        unfinished (cond b (recordFront (number16 high low) (requestOf (take (number16 high low) rest))) part) ≡ true →
-        length rest < number16 high low
-    go true t u = let z : true ≡ false = sym u ∙ record-settles (number16 high low) (requestOf (take (number16 high low) rest)) in
+    go : (b : Bool) → leb (thenByte high low) (length rest) ≡ b →
+        unfinished (cond b (recordFront (thenByte high low) (requestOf (take (thenByte high low) rest))) part) ≡ true →
+        length rest < thenByte high low
+    go true t u = let z : true ≡ false = sym u ∙ record-settles (thenByte high low) (requestOf (take (thenByte high low) rest)) in
         let y : _≡_ {A = ℕ} 0 1 = cc in absurd (omega arith)
-    go false t u = leb-false (number16 high low) (length rest) t
+    go false t u = leb-false (thenByte high low) (length rest) t
 
 -- bytes that are no whole record are fewer than the record takes that they begin
 pub unfinished-short : (p q : List ℕ) {size : ℕ} {r : Request} → unfinished (frontOf p) ≡ true → frontOf (p ++ q) ≡ whole size r → length p < size
@@ -90,13 +90,13 @@ one-front [] n h = absurd (n refl)
 one-front (high ∷ []) n h = refl
 one-front (high ∷ (low ∷ rest)) n h = absurd (omega arith)
 
-pub short-front : (p : List ℕ) → 2 ≤ length p → length p < 2 + number16 (byteAt p 0) (byteAt p 1) → frontOf p ≡ part
+pub short-front : (p : List ℕ) → 2 ≤ length p → length p < 2 + thenByte (byteAt p 0) (byteAt p 1) → frontOf p ≡ part
 unfolding frontOf
 short-front [] two h = absurd (omega arith)
 short-front (high ∷ []) two h = absurd (omega arith)
-short-front (high ∷ (low ∷ rest)) two h = rw (lt-leb (number16 high low) (length rest) (omega arith))
+short-front (high ∷ (low ∷ rest)) two h = rw (lt-leb (thenByte high low) (length rest) (omega arith))
 
-pub record-front : (p : List ℕ) (n : ℕ) → n ≡ number16 (byteAt p 0) (byteAt p 1) → 2 ≤ length p → 2 + n ≤ length p →
+pub record-front : (p : List ℕ) (n : ℕ) → n ≡ thenByte (byteAt p 0) (byteAt p 1) → 2 ≤ length p → 2 + n ≤ length p →
     recordFront (length (take n (drop 2 p))) (requestOf (take n (drop 2 p))) ≡ frontOf p
 unfolding frontOf
 record-front [] n e two h = absurd (omega arith)

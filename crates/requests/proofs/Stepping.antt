@@ -14,10 +14,10 @@ use Rattle.arena.specs.Sound.{soundOf}
 use Rattle.requests.specs.Request.{Request}
 use Rattle.requests.specs.Front.{Front, nothing, part, bad, whole, frontOf}
 use Rattle.requests.specs.Header.{Memory}
-use Rattle.requests.specs.Run.{Reply, Ran, ran, runIn, run}
+use Rattle.requests.specs.Run.{Reply, Ran, ranTo, runIn, run}
 use Rattle.requests.specs.Text.{lineOf}
 use Rattle.requests.specs.Inner.{Put}
-use Rattle.requests.specs.Window.{memoryOf, Passed, passed, ahead, lineRoom, passedBy, passedWithin, passedOf, Through}
+use Rattle.requests.specs.Window.{memoryOf, Passed, passedTo, ahead, lineRoom, passedBy, passedWithin, passedOf, Through}
 use Rattle.requests.proofs.Settling.{whole-size}
 use Rattle.requests.proofs.Putting.{put-length, put-taken, put-then}
 use Rattle.requests.proofs.Lines.{line-length}
@@ -31,7 +31,7 @@ isWhole bad = false
 isWhole (whole size r) = true
 
 pub stops-by-front : (turns room n : ℕ) (m : Memory) (window : List ℕ) → isWhole (frontOf window) ≡ false →
-    passedWithin turns room n m window ≡ passed n m 0 []
+    passedWithin turns room n m window ≡ passedTo n m 0 []
 unfolding passedWithin passedBy
 stops-by-front zero room n m window e = refl
 stops-by-front (suc turns) room n m window e = go (leb lineRoom room) (frontOf window) e
@@ -39,14 +39,14 @@ stops-by-front (suc turns) room n m window e = go (leb lineRoom room) (frontOf w
     on : ℕ → Memory → ℕ → List ℕ → Passed
     on n' m' size line = passedWithin turns (room - length line) n' m' (drop size window)
 
-    go : (t : Bool) (f : Front) → isWhole f ≡ false → cond t (passedBy f n m on) (passed n m 0 []) ≡ passed n m 0 []
+    go : (t : Bool) (f : Front) → isWhole f ≡ false → cond t (passedBy f n m on) (passedTo n m 0 []) ≡ passedTo n m 0 []
     go false f e = refl
     go true nothing e = refl
     go true part e = refl
     go true bad e = refl
     go true (whole size r) e = cc
 
-pub stops-by-room : (turns room n : ℕ) (m : Memory) (window : List ℕ) → room < lineRoom → passedWithin turns room n m window ≡ passed n m 0 []
+pub stops-by-room : (turns room n : ℕ) (m : Memory) (window : List ℕ) → room < lineRoom → passedWithin turns room n m window ≡ passedTo n m 0 []
 unfolding passedWithin
 stops-by-room zero room n m window h = refl
 stops-by-room (suc turns) room n m window h = rw (lt-leb lineRoom room h)
@@ -62,10 +62,10 @@ ahead-ahead : (taken : ℕ) (text : List ℕ) (size : ℕ) (line : List ℕ) (p 
     ahead taken text (ahead size line p) ≡ ahead (taken + size) (text ++ line) p
 ahead-ahead taken text size line p =
     let sum : taken + (size + p .taken) ≡ taken + size + p .taken = omega arith in
-    λ i. passed (p .number) (p .memory) (sum i) (sym (append-assoc text line (p .text)) i)
+    λ i. passedTo (p .number) (p .memory) (sum i) (sym (append-assoc text line (p .text)) i)
 
 ahead-none : (p : Passed) → p ≡ ahead 0 [] p
-ahead-none p = let sum : p .taken ≡ 0 + p .taken = omega arith in λ i. passed (p .number) (p .memory) (sum i) (p .text)
+ahead-none p = let sum : p .taken ≡ 0 + p .taken = omega arith in λ i. passedTo (p .number) (p .memory) (sum i) (p .text)
 
 -- part of the way: the window comes to what was taken and written, ahead of what the rest comes to
 pub record Reached (n : ℕ) (m : Memory) (window out₀ : List ℕ) (a : Arena) (number taken written : ℕ) (bytes out : List ℕ) : Type 0 where
@@ -103,7 +103,7 @@ reached-start n a bytes window out s e =
 module _ (n : ℕ) (m : Memory) (window out₀ : List ℕ) (a : Arena) (number taken w : ℕ) (bytes out : List ℕ) (h : Reached n m window out₀ a number taken w bytes out) where
   -- one record more: what was run, the line that was put, and the bytes after it
   pub reached-step : (size : ℕ) (r : Request) (reply : Reply) (after : Arena) (left lines : List ℕ) (next : ℕ) →
-      frontOf (drop taken window) ≡ whole size r → ran reply after left ≡ runIn r a bytes → length left ≡ length bytes → w + lineRoom ≤ length out →
+      frontOf (drop taken window) ≡ whole size r → ranTo reply after left ≡ runIn r a bytes → length left ≡ length bytes → w + lineRoom ≤ length out →
       Put out w (lineOf number reply) lines next → Reached n m window out₀ after (number + 1) (taken + size) next left lines
   reached-step size r reply after left lines next front said same room put = go (h .turns) (h .comes) (h .left)
     where
@@ -146,7 +146,7 @@ module _ (n : ℕ) (m : Memory) (window out₀ : List ℕ) (a : Arena) (number t
           }
 
   -- where it ends
-  pub reached-end : passedWithin (h .turns) (length out₀ - w) number (memoryOf a bytes) (drop taken window) ≡ passed number (memoryOf a bytes) 0 [] →
+  pub reached-end : passedWithin (h .turns) (length out₀ - w) number (memoryOf a bytes) (drop taken window) ≡ passedTo number (memoryOf a bytes) 0 [] →
       Through (passedOf (length out₀) n m window) out₀ (record { arena = a; number = number; taken = taken; written = w }) bytes out
   reached-end e =
       let end = h .comes ∙ ap (ahead taken (take w out)) e in

@@ -7,10 +7,10 @@ use lib.ListN.{getD}
 abbrev pub byteAt : List ℕ → ℕ → ℕ
 byteAt bytes i = getD bytes i 0
 
--- two bytes as a number
-abbrev pub number16 : ℕ → ℕ → ℕ
-number16 high low = high * 256 + low
+-- a number with one byte more
+abbrev pub thenByte : ℕ → ℕ → ℕ
+thenByte number byte = number * 256 + byte
 
 -- the 4-byte number at a place
 unfoldable pub number32 : List ℕ → ℕ → ℕ
-number32 bytes i = number16 (number16 (number16 (byteAt bytes i) (byteAt bytes (i + 1))) (byteAt bytes (i + 2))) (byteAt bytes (i + 3))
+number32 bytes i = thenByte (thenByte (thenByte (byteAt bytes i) (byteAt bytes (i + 1))) (byteAt bytes (i + 2))) (byteAt bytes (i + 3))

@@ -18,7 +18,7 @@ use Rattle.requests.specs.Front.{Front, nothing, part, bad, whole, front
 use Rattle.requests.specs.Header.{Memory, headerSize, mostRegion, headerOf}
 use Rattle.requests.specs.Parsed.{badRecord}
 use Rattle.requests.specs.Text.{endingLine, heldLine}
-use Rattle.requests.specs.Machine.{Stage, heading, running, stopped, Machine, machine, headed, endingText}
+use Rattle.requests.specs.Machine.{Stage, heading, running, stopped, Machine, machineAt, headed, endingText}
 use Rattle.requests.specs.declared.window.Progress.{Progress}
 use Rattle.requests.specs.Window.{memoryOf, Passed, lineRoom, passedOf, Through}
 use Rattle.requests.specs.Inner.{Put}
@@ -28,11 +28,11 @@ pub record Stepped : Type 0 where
   pub after : Machine
   pub taken : ℕ
 
-abbrev pub stepped : Machine → ℕ → Stepped
-stepped after taken = record { after = after; taken = taken }
+abbrev pub steppedTo : Machine → ℕ → Stepped
+steppedTo after taken = record { after = after; taken = taken }
 
 abbrev pub stays : Stage → ℕ → Memory → Stepped
-stays stage n m = stepped (machine stage n m [] []) 0
+stays stage n m = steppedTo (machineAt stage n m [] []) 0
 
 abbrev pub isBad : Front → Bool
 isBad nothing = false
@@ -42,8 +42,8 @@ isBad (whole size r) = false
 
 -- the records that were passed; a bad one after them stops the run, and the rest of the window is swallowed
 unfoldable pub afterPassed : Bool → Passed → ℕ → Stepped
-afterPassed true p size = stepped (machine stopped (p .number) (p .memory) [] (p .text ++ endingLine (p .number) badRecord)) size
-afterPassed false p size = stepped (machine running (p .number) (p .memory) [] (p .text)) (p .taken)
+afterPassed true p size = steppedTo (machineAt stopped (p .number) (p .memory) [] (p .text ++ endingLine (p .number) badRecord)) size
+afterPassed false p size = steppedTo (machineAt running (p .number) (p .memory) [] (p .text)) (p .taken)
 
 -- a bad record comes next, and its line has room
 abbrev pub badNext : ℕ → List ℕ → Passed → Bool
@@ -55,10 +55,10 @@ runStep room window p = afterPassed (badNext room window p) p (length window)
 unfoldable pub stepAt : Stage → List ℕ → ℕ → Memory → List ℕ → ℕ → Stepped
 stepAt heading lent n m window room =
     cond (leb headerSize (length window) && leb lineRoom room)
-    (stepped (headed lent (headerOf window)) headerSize)
+    (steppedTo (headed lent (headerOf window)) headerSize)
     (stays heading n m)
 stepAt running lent n m window room = runStep room window (passedOf room n m window)
-stepAt stopped lent n m window room = stepped (machine stopped n m [] []) (length window)
+stepAt stopped lent n m window room = steppedTo (machineAt stopped n m [] []) (length window)
 
 -- the last number that the code can count to
 abbrev pub lastNumber : ℕ

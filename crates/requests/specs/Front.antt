@@ -5,7 +5,7 @@ use mathlib.Core.List.{List, [], _∷_}
 use mathlib.Core.Option.{Option, none, some}
 use lib.ListN.{length, take}
 use lib.Dec.{leb}
-use Rattle.requests.specs.Bytes.{number16}
+use Rattle.requests.specs.Bytes.{thenByte}
 use Rattle.requests.specs.Request.{Request, requestOf}
 
 -- no byte, a part of a record, a whole record that says no request, or a request and the bytes that its record takes
@@ -32,6 +32,6 @@ unfoldable pub frontOf : List ℕ → Front
 frontOf [] = nothing
 frontOf (high ∷ []) = part
 frontOf (high ∷ (low ∷ rest)) =
-    cond (leb (number16 high low) (length rest))
-    (recordFront (number16 high low) (requestOf (take (number16 high low) rest)))
+    cond (leb (thenByte high low) (length rest))
+    (recordFront (thenByte high low) (requestOf (take (thenByte high low) rest)))
     part

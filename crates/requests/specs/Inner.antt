@@ -15,7 +15,7 @@ use Rattle.requests.specs.declared.Front.{Front as Code·Front}
 use Rattle.requests.specs.Request.{Request, allocate, free, grow, shrink, reset, setLimit, noLimit, allocateWithToken, cancel, resize, Form}
 use Rattle.requests.specs.declared.Reply.the-variants.{At, Done, Refused}
 use Rattle.requests.specs.declared.Reply.{Reply as Code·Reply}
-use Rattle.requests.specs.Run.{Reply, at-offset, done, refused, Ran, ran}
+use Rattle.requests.specs.Run.{Reply, at-offset, done, refused, Ran, ranTo}
 use Rattle.requests.specs.declared.run.Ran.{Ran as Code·Ran}
 use Rattle.requests.specs.Front.{Front, nothing, part, bad, whole}
 use mathlib.Core.Option.{Option, none, some}
@@ -65,4 +65,4 @@ replySaid (Refused r) = refused r
 
 -- what the code's run and the region's bytes after it say, once its change of the record is made
 unfoldable pub ranSaid : Arena → Code·Ran → List ℕ → Ran
-ranSaid a r bytes = ran (replySaid (r .reply)) (changedBy (r .change) a) bytes
+ranSaid a r bytes = ranTo (replySaid (r .reply)) (changedBy (r .change) a) bytes

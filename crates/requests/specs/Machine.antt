@@ -26,30 +26,30 @@ pub record Machine : Type 0 where
   pub pending : List ℕ
   pub text : List ℕ
 
-abbrev pub machine : Stage → ℕ → Memory → List ℕ → List ℕ → Machine
-machine stage number memory pending text =
+abbrev pub machineAt : Stage → ℕ → Memory → List ℕ → List ℕ → Machine
+machineAt stage number memory pending text =
     record { stage = stage; number = number; memory = memory; pending = pending; text = text }
 
 -- before the first byte
 abbrev pub start : List ℕ → Machine
-start lent = machine heading 1 (memoryFor lent none) [] []
+start lent = machineAt heading 1 (memoryFor lent none) [] []
 
 -- a whole header opens the run or stops it
 unfoldable pub headed : List ℕ → Option Header → Machine
-headed lent none = machine stopped 1 (memoryFor lent none) [] badHeaderText
-headed lent (some h) = machine running 1 (memoryFor lent (some h)) [] []
+headed lent none = machineAt stopped 1 (memoryFor lent none) [] badHeaderText
+headed lent (some h) = machineAt running 1 (memoryFor lent (some h)) [] []
 
 unfoldable pub headerFed : List ℕ → List ℕ → Machine
 headerFed lent pending =
-    cond (ltb (length pending) headerSize) (machine heading 1 (memoryFor lent none) pending []) (headed lent (headerOf pending))
+    cond (ltb (length pending) headerSize) (machineAt heading 1 (memoryFor lent none) pending []) (headed lent (headerOf pending))
 
 -- a whole record is run and its line is added; a bad one stops the run
 unfoldable pub recordFed : Front → ℕ → Memory → List ℕ → List ℕ → Machine
-recordFed nothing n m pending text = machine running n m pending text
-recordFed part n m pending text = machine running n m pending text
-recordFed bad n m pending text = machine stopped n m [] (text ++ endingLine n badRecord)
+recordFed nothing n m pending text = machineAt running n m pending text
+recordFed part n m pending text = machineAt running n m pending text
+recordFed bad n m pending text = machineAt stopped n m [] (text ++ endingLine n badRecord)
 recordFed (whole size r) n m pending text =
-    machine running (n + 1) (run r m .memory) [] (text ++ lineOf n (run r m .reply))
+    machineAt running (n + 1) (run r m .memory) [] (text ++ lineOf n (run r m .reply))
 
 -- "both stop the run"; document 02, C-19: "Bytes after `bad header` or `bad record` are swallowed and change nothing"
 unfoldable pub fedAt : List ℕ → Stage → Machine → ℕ → Machine

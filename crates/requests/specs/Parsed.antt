@@ -34,5 +34,5 @@ parsedWithin zero bytes = ended complete
 parsedWithin (suc turns) bytes = parsedFrom (frontOf bytes) (λ size. parsedWithin turns (drop size bytes))
 
 -- a record takes a byte at least, so there are turns enough
-unfoldable pub parsed : List ℕ → Parsed
-parsed bytes = parsedWithin (length bytes) bytes
+unfoldable pub parsedOf : List ℕ → Parsed
+parsedOf bytes = parsedWithin (length bytes) bytes

@@ -4,7 +4,7 @@ use mathlib.Core.List.{List, _++_}
 use mathlib.Core.Option.{Option, none, some}
 use lib.ListN.{drop}
 use Rattle.requests.specs.Header.{Header, Memory, headerSize, headerOf, memoryFor}
-use Rattle.requests.specs.Parsed.{Parsed, Ending, parsed}
+use Rattle.requests.specs.Parsed.{Parsed, Ending, parsedOf}
 use Rattle.requests.specs.Run.{Answers, answers}
 use Rattle.requests.specs.Text.{badHeaderText, linesFrom, heldLine}
 
@@ -28,7 +28,7 @@ replayedFrom n m p = closedAnswers n (answers (p .requests) m) (p .ending)
 -- "A wrong or short header gives only `0 bad header`" and the last line
 unfoldable pub replayedBy : Option Header → Memory → List ℕ → Replayed
 replayedBy none m bytes = closed badHeaderText m
-replayedBy (some h) m bytes = replayedFrom 1 m (parsed bytes)
+replayedBy (some h) m bytes = replayedFrom 1 m (parsedOf bytes)
 
 unfoldable pub replayOf : List ℕ → List ℕ → Replayed
 replayOf lent bytes = replayedBy (headerOf bytes) (memoryFor lent (headerOf bytes)) (drop headerSize bytes)

@@ -31,21 +31,21 @@ pub record Form : Type 0 where
   pub fields : ℕ
   pub says : (ℕ → ℕ) → Request
 
-abbrev pub form : ℕ → ℕ → ((ℕ → ℕ) → Request) → Form
-form code fields says = record { code = code; fields = fields; says = says }
+abbrev pub formOf : ℕ → ℕ → ((ℕ → ℕ) → Request) → Form
+formOf code fields says = record { code = code; fields = fields; says = says }
 
 -- "Codes: 1 allocate (size, align); 2 free (offset, size, align); .."
 abbrev pub forms : List Form
 forms =
-    form 1 2 (λ f. allocate (f 0) (f 1))
-    ∷ (form 2 3 (λ f. free (f 0) (f 1) (f 2))
-    ∷ (form 3 5 (λ f. grow (f 0) (f 1) (f 2) (f 3) (f 4))
-    ∷ (form 4 5 (λ f. shrink (f 0) (f 1) (f 2) (f 3) (f 4))
-    ∷ (form 5 0 (λ f. reset)
-    ∷ (form 6 1 (λ f. setLimit (f 0))
-    ∷ (form 7 0 (λ f. noLimit)
-    ∷ (form 8 2 (λ f. allocateWithToken (f 0) (f 1))
-    ∷ (form 9 3 (λ f. cancel (f 0) (f 1) (f 2)) ∷ (form 10 4 (λ f. resize (f 0) (f 1) (f 2) (f 3)) ∷ [])))))))))
+    formOf 1 2 (λ f. allocate (f 0) (f 1))
+    ∷ (formOf 2 3 (λ f. free (f 0) (f 1) (f 2))
+    ∷ (formOf 3 5 (λ f. grow (f 0) (f 1) (f 2) (f 3) (f 4))
+    ∷ (formOf 4 5 (λ f. shrink (f 0) (f 1) (f 2) (f 3) (f 4))
+    ∷ (formOf 5 0 (λ f. reset)
+    ∷ (formOf 6 1 (λ f. setLimit (f 0))
+    ∷ (formOf 7 0 (λ f. noLimit)
+    ∷ (formOf 8 2 (λ f. allocateWithToken (f 0) (f 1))
+    ∷ (formOf 9 3 (λ f. cancel (f 0) (f 1) (f 2)) ∷ (formOf 10 4 (λ f. resize (f 0) (f 1) (f 2) (f 3)) ∷ [])))))))))
 
 -- a field of a record's own bytes, which begin with the code
 abbrev pub fieldOf : List ℕ → ℕ → ℕ

@@ -39,15 +39,15 @@ pub record Ran : Type 0 where
   pub reply : Reply
   pub memory : Memory
 
-abbrev pub ran : Reply → Arena → List ℕ → Ran
-ran reply arena bytes = record { reply = reply; memory = record { arena = arena; bytes = bytes } }
+abbrev pub ranTo : Reply → Arena → List ℕ → Ran
+ranTo reply arena bytes = record { reply = reply; memory = record { arena = arena; bytes = bytes } }
 
 -- `N at OFFSET` for 1, 3, 4, 8, 10, and `N done` for the others
 abbrev pub gave : Allocation → List ℕ → Ran
-gave r bytes = ran (givenReply (r .answer)) (r .arena) bytes
+gave r bytes = ranTo (givenReply (r .answer)) (r .arena) bytes
 
 abbrev pub did : Outcome → List ℕ → Ran
-did r bytes = ran (answerReply (r .answer)) (r .arena) bytes
+did r bytes = ranTo (answerReply (r .answer)) (r .arena) bytes
 
 unfoldable pub runIn : Request → Arena → List ℕ → Ran
 runIn (allocate size align) a bytes = gave (allocateOf a (length bytes) size align) bytes
@@ -60,7 +60,7 @@ runIn reset a bytes = did (resetOf a) bytes
 runIn (setLimit limit) a bytes = did (setLimitOf a limit) bytes
 runIn noLimit a bytes = did (noLimitOf a) bytes
 runIn (allocateWithToken size align) a bytes =
-    ran (givenReply (withTokenOf a (length bytes) size align .answer)) (withTokenOf a (length bytes) size align .arena) bytes
+    ranTo (givenReply (withTokenOf a (length bytes) size align .answer)) (withTokenOf a (length bytes) size align .arena) bytes
 runIn (cancel offset count pointer) a bytes = did (cancelOf a offset (tokenOf count pointer)) bytes
 runIn (resize offset old align new) a bytes =
     gave (resizeOf a (length bytes) offset old align new) (resizeBytes a bytes offset old align new)

@@ -24,12 +24,12 @@ pub record Passed : Type 0 where
   pub taken : ℕ
   pub text : List ℕ
 
-abbrev pub passed : ℕ → Memory → ℕ → List ℕ → Passed
-passed number memory taken text = record { number = number; memory = memory; taken = taken; text = text }
+abbrev pub passedTo : ℕ → Memory → ℕ → List ℕ → Passed
+passedTo number memory taken text = record { number = number; memory = memory; taken = taken; text = text }
 
 -- a record's bytes and its line, before what follows them
 abbrev pub ahead : ℕ → List ℕ → Passed → Passed
-ahead size line p = passed (p .number) (p .memory) (size + p .taken) (line ++ p .text)
+ahead size line p = passedTo (p .number) (p .memory) (size + p .taken) (line ++ p .text)
 
 -- any line fits in this many bytes
 abbrev pub lineRoom : ℕ
@@ -37,19 +37,19 @@ lineRoom = 64
 
 -- a whole record is run; on says what follows, from a number, a memory, the record's bytes and its line
 unfoldable pub passedBy : Front → ℕ → Memory → (ℕ → Memory → ℕ → List ℕ → Passed) → Passed
-passedBy nothing n m on = passed n m 0 []
-passedBy part n m on = passed n m 0 []
-passedBy bad n m on = passed n m 0 []
+passedBy nothing n m on = passedTo n m 0 []
+passedBy part n m on = passedTo n m 0 []
+passedBy bad n m on = passedTo n m 0 []
 passedBy (whole size r) n m on =
     ahead size (lineOf n (run r m .reply)) (on (n + 1) (run r m .memory) size (lineOf n (run r m .reply)))
 
 -- while a whole, good record stands at the front and the output has room for a line; no more records than turns
 unfoldable pub passedWithin : ℕ → ℕ → ℕ → Memory → List ℕ → Passed
-passedWithin zero room n m window = passed n m 0 []
+passedWithin zero room n m window = passedTo n m 0 []
 passedWithin (suc turns) room n m window =
     cond (leb lineRoom room)
     (passedBy (frontOf window) n m (λ n' m' size line. passedWithin turns (room - length line) n' m' (drop size window)))
-    (passed n m 0 [])
+    (passedTo n m 0 [])
 
 -- a record takes a byte at least, so there are turns enough
 unfoldable pub passedOf : ℕ → ℕ → Memory → List ℕ → Passed

@@ -2,7 +2,7 @@
 ghost use mathlib.Core.Path.{_≡_};
 ghost use Prim.Native.Nat.{_+_, _*_, _<_, _≤_, _^_};
 ghost use lib.ListN.{length};
-ghost use Rattle.requests.specs.Bytes.{byteAt, number16, number32};
+ghost use Rattle.requests.specs.Bytes.{byteAt, thenByte, number32};
 ghost use Rattle.requests.specs.Request.{forms, requestOf};
 ghost use Rattle.requests.specs.Front.{recordFront, frontOf};
 ghost use Rattle.requests.specs.Inner.{sizeBy, frontSaid};
@@ -18,7 +18,7 @@ pub fn wide(byte: u8) -> usize
 // A number with one byte more, big-endian.
 fn then_byte(number: usize, byte: u8) -> usize
     requires { ⌜ number < 2 ^ 32 ⌝ }
-    ensures { λ r. ⌜ (r ≡ number16 number byte) × (r < 256 * number + 256) ⌝ }
+    ensures { λ r. ⌜ (r ≡ thenByte number byte) × (r < 256 * number + 256) ⌝ }
 {
     number * 256 + wide(byte)
 }

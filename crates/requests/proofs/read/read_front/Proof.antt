@@ -2,7 +2,7 @@
 use Prim.Native.Nat.{_+_, _-_}
 use native.Mathlib.Omega.{arith}
 use mathlib.Core.Path.{_≡_, sym, _∙_}
-use Rattle.requests.specs.Bytes.{byteAt, number16}
+use Rattle.requests.specs.Bytes.{byteAt, thenByte}
 use denote.Ref.{now}
 use Rattle.requests.specs.Inner.{frontSaid}
 use Rattle.requests.proofs.Settling.{nothing-front, one-front, short-front, record-front}
@@ -36,7 +36,7 @@ add-end c = search needs
 -- the length number that was read
 length-number : (c : tie.After-then-byte) →
     let bytes = now (c .before .before .before .before .before .before .before .args .bytes) in
-    c .then-byte .result ≡ number16 (byteAt bytes 0) (byteAt bytes 1)
+    c .then-byte .result ≡ thenByte (byteAt bytes 0) (byteAt bytes 1)
 length-number c = rw (c .before .before .wide .ensures .0) at (c .then-byte .ensures .0)
 
 returns-3 : tie.Need-returns-3

@@ -20,7 +20,7 @@ use Rattle.requests.specs.declared.Front.{Front}
 use Rattle.requests.specs.declared.Front.the-variants.{Nothing, Part, Bad, Whole}
 use Rattle.requests.specs.Front.{whole, frontOf}
 use Rattle.requests.specs.Inner.{requestSaid, frontSaid, replySaid, ranSaid}
-use Rattle.requests.specs.Run.{ran, runIn}
+use Rattle.requests.specs.Run.{ranTo, runIn}
 use Rattle.requests.proofs.Settling.{whole-size}
 use Rattle.requests.specs.Window.{memoryOf}
 use Rattle.requests.proofs.Stepping.{Reached, isWhole, stops-by-front, stops-by-room, reached-start, reached-step, reached-end}
@@ -119,12 +119,12 @@ loop-less c = let i = record-inside (c .before .before .before .before .before .
 after : (c : tie.After-make Inv-loop μ-loop) →
     let l = c .before .before .before .before .before .before .before .before .before .before .before .before .before .before .before .before .before in
     let r = c .before .before .before .before .before .before .run in
-    ran (replySaid (r .result .reply)) (recordOf (c .make .result) (c .make .last .1 .0) (c .make .last .1 .1 .0) (c .make .last .1 .1 .1 .0)) (r .last .1 .1 .1 .1 .0)
+    ranTo (replySaid (r .result .reply)) (recordOf (c .make .result) (c .make .last .1 .0) (c .make .last .1 .1 .0) (c .make .last .1 .1 .1 .0)) (r .last .1 .1 .1 .1 .0)
     ≡ runIn (requestSaid (c .before .before .before .before .before .before .before .before .before .before .before .before .size .given .0 .1 .0)) (own l) (l .loop .region)
 unfolding ranSaid
 after c =
     let r = c .before .before .before .before .before .before .run in
-    ap (λ (b : Arena). ran (replySaid (r .result .reply)) b (r .last .1 .1 .1 .1 .0)) (c .make .ensures) ∙ r .ensures
+    ap (λ (b : Arena). ranTo (replySaid (r .result .reply)) b (r .last .1 .1 .1 .1 .0)) (c .make .ensures) ∙ r .ensures
 
 loop-again : tie.Need-loop-again Inv-loop μ-loop
 loop-again c =
