@@ -1,12 +1,8 @@
-// Reading the table of held chunks, and moving the current pointer. The columns are lent, since a record by value would be copied whole for each number read.
+// Reading the table of held chunks. The columns are lent, since a record by value would be copied whole for each number read.
 ghost use mathlib.Core.Path.{_≡_};
-ghost use mathlib.Core.Bool.{true};
 ghost use Prim.Native.Nat.{_<_};
 ghost use Rattle.arena.specs.Numbers.{places};
-ghost use Rattle.arena.specs.Record.{chunkAt, heldOf, holding};
-ghost use Rattle.arena.specs.Sound.{soundOf};
-ghost use Rattle.arena.specs.Inner.{movedTo};
-use crate::Arena;
+ghost use Rattle.arena.specs.Record.{chunkAt};
 use crate::Chunk;
 
 pub fn chunk_at<'a>(
@@ -23,15 +19,4 @@ pub fn chunk_at<'a>(
         size: sizes[i],
         pointer: pointers[i],
     }
-}
-
-// The record with the current pointer moved.
-pub fn with_pointer(a: Arena, p: usize) -> Arena
-    requires { ⌜ (soundOf a ≡ true) × (0 < a .head .count) ⌝ }
-    ensures { λ r. ⌜ r ≡ holding (a .head) (movedTo (heldOf a) p) ⌝ }
-{
-    let last = a.head.count - 1;
-    let mut out = a;
-    out.pointers[last] = p;
-    out
 }

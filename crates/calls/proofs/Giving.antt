@@ -1,19 +1,17 @@
 -- What the code finds, stage by stage, is what the definition of allocate goes by: the current chunk's pointer, then the ladder's chunk.
 -- Assumes nothing.
-use Prim.Native.Nat.{ℕ, suc, _+_, _-_, _≤_, _<_, zero-le, suc-le-suc}
+use Prim.Native.Nat.{ℕ, _+_, _-_, _≤_, _<_}
 use native.Mathlib.Omega.{arith}
-use mathlib.Core.Bool.{true, _&&_}
+use mathlib.Core.Bool.{_&&_}
 use mathlib.Core.List.{List, [], _∷_}
 use mathlib.Core.Option.{Option, none, some, Option·map, Option·none-ne-some}
-use mathlib.Core.Path.{_≡_, refl, _∙_, ap}
+use mathlib.Core.Path.{_≡_, refl}
 use lib.Dec.{leb}
-use lib.ListN.{length}
 use borrow.Author.Tests.{leb-true}
-use Rattle.rounding.specs.First.{only}
 use Rattle.rounding.specs.Round.{roundDown}
 use Rattle.rounding.proofs.First.{failed-only}
 use Rattle.rounding.proofs.Tests.{refute, and-left, and-right}
-use Rattle.rounding.proofs.Powers.{Power, power-positive}
+use Rattle.rounding.proofs.Powers.{power-positive}
 use Rattle.arena.specs.declared.Head.{Head}
 use Rattle.arena.specs.declared.Arena.{Arena}
 use Rattle.arena.specs.declared.Chunk.{Chunk}
@@ -70,14 +68,6 @@ module _ (minimum : ℕ) (cs : List Chunk) (size align : ℕ) where
           currentGives minimum ds size align ≡ some (record { offset = p; chunks = movedTo ds p })
       go [] f = absurd (Option·none-ne-some p f)
       go (c ∷ ds) f = rw f
-
-  pub current-held : {p : ℕ} → currentPointer minimum cs size align ≡ some p → 0 < length cs
-  unfolding currentPointer
-  current-held {p} e = go cs e
-    where
-      go : (ds : List Chunk) → currentPointer minimum ds size align ≡ some p → 0 < length ds
-      go [] f = absurd (Option·none-ne-some p f)
-      go (c ∷ ds) f = suc-le-suc zero-le
 
 module _ (h : Head) (cs : List Chunk) (size align : ℕ) where
   pub from-current : {t : Taken} → currentGives (h .minimum) cs size align ≡ some t → allocateIn h cs size align ≡ some t

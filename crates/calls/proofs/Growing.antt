@@ -56,14 +56,6 @@ module _ (minimum : ℕ) (cs : List Chunk) (offset old oldAlign new newAlign : �
       go true f = current-moved minimum cs more oldAlign f
       go false f = absurd (Option·none-ne-some p f)
 
-  pub grown-there : {p : ℕ} → grownPointer minimum cs offset old oldAlign new newAlign ≡ some p → atPointer cs offset ≡ true
-  unfolding grownPointer
-  grown-there {p} e = go allowed refl e
-    where
-      go : (b : Bool) → allowed ≡ b → cond b (currentPointer minimum cs more oldAlign) none ≡ some p → atPointer cs offset ≡ true
-      go true t f = and-right (leb newAlign oldAlign) (atPointer cs offset) t
-      go false t f = absurd (Option·none-ne-some p f)
-
 module _ (h : Head) (cs : List Chunk) (offset old oldAlign new newAlign : ℕ) where
   pub grows-in-place : {t : Taken} → grownInPlace (h .minimum) cs offset old oldAlign new newAlign ≡ some t →
       growIn h cs offset old oldAlign new newAlign ≡ some t

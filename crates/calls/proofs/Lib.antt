@@ -17,7 +17,6 @@ pub mod Needing
 pub mod Ordered
 pub mod Passing
 pub mod Placing
-pub mod Pointing
 pub mod Reading
 pub mod Requests
 pub mod Resizing

@@ -111,22 +111,6 @@ pub fn allocate_placed<'a>(
     placed_tested(h, starts, sizes, pointers, size, align)
 }
 
-pub fn allocate_tested(a: Arena, size: usize, align: usize) -> Allocation
-    requires { ⌜ Tested a size align ⌝ }
-    ensures { λ r. ⌜ r ≡ given none a (allocateIn (a .head) (heldOf a) size align) ⌝ }
-{
-    let placed = placed_tested(a.head, &a.starts, &a.sizes, &a.pointers, size, align);
-    settled(a, placed)
-}
-
-pub fn allocate_sound(a: Arena, size: usize, align: usize) -> Allocation
-    requires { ⌜ soundOf a ≡ true ⌝ }
-    ensures { λ r. ⌜ r ≡ allocateOf a (a .head .region) size align ⌝ }
-{
-    let placed = allocate_placed(a.head, &a.starts, &a.sizes, &a.pointers, size, align);
-    settled(a, placed)
-}
-
 pub fn allocate(a: Arena, region: &[u8], size: usize, align: usize) -> Allocation
     ensures { λ r. ⌜ r ≡ allocateOf a (length (now (region .entry))) size align ⌝ }
 {
@@ -136,5 +120,6 @@ pub fn allocate(a: Arena, region: &[u8], size: usize, align: usize) -> Allocatio
     if region.len() != a.head.region {
         return refused(a, Refusal::Region);
     }
-    allocate_sound(a, size, align)
+    let placed = allocate_placed(a.head, &a.starts, &a.sizes, &a.pointers, size, align);
+    settled(a, placed)
 }

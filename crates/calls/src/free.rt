@@ -72,10 +72,12 @@ pub fn free_ended<'a>(
     }
 }
 
-pub fn free_sound(a: Arena, offset: usize, size: usize, align: usize) -> Outcome
-    requires { ⌜ soundOf a ≡ true ⌝ }
+pub fn free(a: Arena, offset: usize, size: usize, align: usize) -> Outcome
     ensures { λ r. ⌜ r ≡ freeOf a offset size align ⌝ }
 {
+    if !is_sound(a.head, &a.starts, &a.sizes, &a.pointers) {
+        return refused(a, Refusal::State);
+    }
     let ended = free_ended(
         a.head,
         &a.starts,
@@ -86,13 +88,4 @@ pub fn free_sound(a: Arena, offset: usize, size: usize, align: usize) -> Outcome
         align,
     );
     finished(a, ended)
-}
-
-pub fn free(a: Arena, offset: usize, size: usize, align: usize) -> Outcome
-    ensures { λ r. ⌜ r ≡ freeOf a offset size align ⌝ }
-{
-    if !is_sound(a.head, &a.starts, &a.sizes, &a.pointers) {
-        return refused(a, Refusal::State);
-    }
-    free_sound(a, offset, size, align)
 }

@@ -142,34 +142,6 @@ pub fn grow_placed<'a>(
     got
 }
 
-pub fn grow_sound(
-    a: Arena,
-    region: &mut [u8],
-    offset: usize,
-    old: usize,
-    old_align: usize,
-    new: usize,
-    new_align: usize,
-) -> Allocation
-    requires { ⌜ (soundOf a ≡ true) × (length (now region) ≡ a .head .region) ⌝ }
-    ensures { λ r. ⌜ r ≡ growOf a (length (now (region .entry))) offset old «old_align» new «new_align» ⌝ }
-    ensures { λ r. ⌜ now (region .exit) ≡ growBytes a (now (region .entry)) offset old «old_align» new «new_align» ⌝ }
-{
-    let placed = grow_placed(
-        a.head,
-        &a.starts,
-        &a.sizes,
-        &a.pointers,
-        region,
-        offset,
-        old,
-        old_align,
-        new,
-        new_align,
-    );
-    settled(a, placed)
-}
-
 pub fn grow(
     a: Arena,
     region: &mut [u8],
@@ -191,7 +163,19 @@ pub fn grow(
     ) {
         return refused(a, r);
     }
-    grow_sound(a, region, offset, old, old_align, new, new_align)
+    let placed = grow_placed(
+        a.head,
+        &a.starts,
+        &a.sizes,
+        &a.pointers,
+        region,
+        offset,
+        old,
+        old_align,
+        new,
+        new_align,
+    );
+    settled(a, placed)
 }
 
 // The bytes after the old ones are cleared.

@@ -94,32 +94,6 @@ pub fn resize_placed<'a>(
     got
 }
 
-pub fn resize_sound(
-    a: Arena,
-    region: &mut [u8],
-    offset: usize,
-    old: usize,
-    align: usize,
-    new: usize,
-) -> Allocation
-    requires { ⌜ (soundOf a ≡ true) × (length (now region) ≡ a .head .region) ⌝ }
-    ensures { λ r. ⌜ r ≡ resizeOf a (length (now (region .entry))) offset old align new ⌝ }
-    ensures { λ r. ⌜ now (region .exit) ≡ resizeBytes a (now (region .entry)) offset old align new ⌝ }
-{
-    let placed = resize_placed(
-        a.head,
-        &a.starts,
-        &a.sizes,
-        &a.pointers,
-        region,
-        offset,
-        old,
-        align,
-        new,
-    );
-    settled(a, placed)
-}
-
 pub fn resize(
     a: Arena,
     region: &mut [u8],
@@ -140,5 +114,16 @@ pub fn resize(
     ) {
         return refused(a, r);
     }
-    resize_sound(a, region, offset, old, align, new)
+    let placed = resize_placed(
+        a.head,
+        &a.starts,
+        &a.sizes,
+        &a.pointers,
+        region,
+        offset,
+        old,
+        align,
+        new,
+    );
+    settled(a, placed)
 }

@@ -145,34 +145,6 @@ pub fn shrink_placed<'a>(
     got
 }
 
-pub fn shrink_sound(
-    a: Arena,
-    region: &mut [u8],
-    offset: usize,
-    old: usize,
-    old_align: usize,
-    new: usize,
-    new_align: usize,
-) -> Allocation
-    requires { ⌜ (soundOf a ≡ true) × (length (now region) ≡ a .head .region) ⌝ }
-    ensures { λ r. ⌜ r ≡ shrinkOf a (length (now (region .entry))) offset old «old_align» new «new_align» ⌝ }
-    ensures { λ r. ⌜ now (region .exit) ≡ shrinkBytes a (now (region .entry)) offset old «old_align» new «new_align» ⌝ }
-{
-    let placed = shrink_placed(
-        a.head,
-        &a.starts,
-        &a.sizes,
-        &a.pointers,
-        region,
-        offset,
-        old,
-        old_align,
-        new,
-        new_align,
-    );
-    settled(a, placed)
-}
-
 pub fn shrink(
     a: Arena,
     region: &mut [u8],
@@ -194,5 +166,17 @@ pub fn shrink(
     ) {
         return refused(a, r);
     }
-    shrink_sound(a, region, offset, old, old_align, new, new_align)
+    let placed = shrink_placed(
+        a.head,
+        &a.starts,
+        &a.sizes,
+        &a.pointers,
+        region,
+        offset,
+        old,
+        old_align,
+        new,
+        new_align,
+    );
+    settled(a, placed)
 }

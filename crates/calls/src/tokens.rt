@@ -88,14 +88,6 @@ pub fn allocate_with_token_placed<'a>(
     }
 }
 
-pub fn allocate_with_token_sound(a: Arena, size: usize, align: usize) -> TokenAllocation
-    requires { ⌜ soundOf a ≡ true ⌝ }
-    ensures { λ r. ⌜ r ≡ withTokenOf a (a .head .region) size align ⌝ }
-{
-    let placed = allocate_with_token_placed(a.head, &a.starts, &a.sizes, &a.pointers, size, align);
-    settled_with_token(a, placed)
-}
-
 // The record goes back as it came.
 fn refused_token(a: Arena, r: Refusal) -> TokenAllocation
     ensures { λ out. ⌜ out ≡ withToken (given (some r) a none) (tokenFor (heldOf a)) ⌝ }
@@ -119,7 +111,8 @@ pub fn allocate_with_token(a: Arena, region: &[u8], size: usize, align: usize) -
     if region.len() != a.head.region {
         return refused_token(a, Refusal::Region);
     }
-    allocate_with_token_sound(a, size, align)
+    let placed = allocate_with_token_placed(a.head, &a.starts, &a.sizes, &a.pointers, size, align);
+    settled_with_token(a, placed)
 }
 
 // With a smaller count the chunk was taken for the block, and the recorded pointer is not looked at.
@@ -205,14 +198,6 @@ pub fn cancel_ended<'a>(
     }
 }
 
-pub fn cancel_sound(a: Arena, offset: usize, token: Token) -> Outcome
-    requires { ⌜ soundOf a ≡ true ⌝ }
-    ensures { λ r. ⌜ r ≡ cancelOf a offset token ⌝ }
-{
-    let ended = cancel_ended(a.head, &a.starts, &a.sizes, &a.pointers, offset, token);
-    finished(a, ended)
-}
-
 pub fn cancel(a: Arena, offset: usize, token: Token) -> Outcome
     ensures { λ r. ⌜ r ≡ cancelOf a offset token ⌝ }
 {
@@ -222,5 +207,6 @@ pub fn cancel(a: Arena, offset: usize, token: Token) -> Outcome
             arena: a,
         };
     }
-    cancel_sound(a, offset, token)
+    let ended = cancel_ended(a.head, &a.starts, &a.sizes, &a.pointers, offset, token);
+    finished(a, ended)
 }

@@ -1,7 +1,9 @@
 -- `calls::allocate::allocate` meets its contract: an unsound record or another region's length is refused, and the rest is the sound record's.
 -- Assumes nothing.
 use Prim.Native.Nat.{ℕ}
-use mathlib.Core.Path.{sym, _∙_, ap}
+use mathlib.Core.Bool.{true}
+use mathlib.Core.Path.{_≡_, sym, _∙_, ap}
+use Rattle.arena.specs.Sound.{soundOf}
 use Rattle.rounding.proofs.Tests.{taken-false, left-true}
 use Rattle.calls.specs.Allocate.{allocateOf}
 use Rattle.calls.proofs.Requests.{allocate-state, allocate-region}
@@ -34,13 +36,20 @@ returns-2 c =
     (allocate-region (s .args .t1) _ (s .args .size) (s .args .align) (left-true (t .is-sound .ensures) (c .before .before .if1 .left))
     (c .before .if2 .taken))
 
-allocate-sound-requires : tie.Need-allocate-sound-requires
-allocate-sound-requires c κs = left-true (c .before .before .is-sound .ensures) (c .before .if1 .left)
+-- past the tests the record is sound
+sound : (c : tie.Else2) → soundOf (c .before .before .before .before .before .before .before .before .before .args .t1) ≡ true
+sound c = left-true (c .before .before .is-sound .ensures) (c .before .if1 .left)
+
+allocate-placed-requires : tie.Need-allocate-placed-requires
+allocate-placed-requires c κs = sound (c .before .before .before .before .before)
+
+settled-requires : tie.Need-settled-requires
+settled-requires c κs = sound (c .before .before .before .before .before .before)
 
 returns-3 : tie.Need-returns-3
 returns-3 c =
-    let s = c .before .before .before .before .before .before .before .before .before .before in
-    c .allocate-sound .ensures ∙ sym (ap (λ (lent : ℕ). allocateOf (s .args .t1) lent (s .args .size) (s .args .align)) (c .before .if2 .left))
+    let s = c .before .before .before .before .before .before .before .before .before .before .before .before .before .before .before .before in
+    c .settled .ensures ∙ c .before .allocate-placed .ensures ∙ sym (ap (λ (lent : ℕ). allocateOf (s .args .t1) lent (s .args .size) (s .args .align)) (c .before .before .before .before .before .before .before .if2 .left))
 
 pub allocate-spec : {M : Type 1} → statement M
 allocate-spec =
@@ -51,5 +60,6 @@ allocate-spec =
     returns
     refused-requires-2
     returns-2
-    allocate-sound-requires
+    allocate-placed-requires
+    settled-requires
     returns-3)

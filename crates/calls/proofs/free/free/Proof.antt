@@ -1,5 +1,7 @@
 -- `calls::free::free` meets its contract: an unsound record is refused, and the rest is the sound record's. Assumes nothing.
-use mathlib.Core.Path.{sym, _∙_}
+use mathlib.Core.Bool.{true}
+use mathlib.Core.Path.{_≡_, sym, _∙_}
+use Rattle.arena.specs.Sound.{soundOf}
 use Rattle.rounding.proofs.Tests.{taken-false, left-true}
 use Rattle.calls.proofs.Freeing.{free-state}
 use borrow.Author.Needs.{needs}
@@ -19,11 +21,18 @@ returns c =
     c .refused .ensures
     ∙ sym (free-state (s .args .t1) (s .args .offset) (s .args .size) (s .args .align) (taken-false (t .is-sound .ensures) (c .before .if1 .taken)))
 
-free-sound-requires : tie.Need-free-sound-requires
-free-sound-requires c κs = left-true (c .before .is-sound .ensures) (c .if1 .left)
+-- past the test the record is sound
+sound : (c : tie.Else1) → soundOf (c .before .before .before .before .before .before .before .args .t1) ≡ true
+sound c = left-true (c .before .is-sound .ensures) (c .if1 .left)
+
+free-ended-requires : tie.Need-free-ended-requires
+free-ended-requires c κs = sound (c .before .before .before .before .before)
+
+finished-requires : tie.Need-finished-requires
+finished-requires c κs = sound (c .before .before .before .before .before .before)
 
 returns-2 : tie.Need-returns-2
-returns-2 c = c .free-sound .ensures
+returns-2 c = c .finished .ensures ∙ c .before .free-ended .ensures
 
 pub free-spec : {M : Type 1} → statement M
-free-spec = tie.close (tie.spec is-sound-requires refused-requires returns free-sound-requires returns-2)
+free-spec = tie.close (tie.spec is-sound-requires refused-requires returns free-ended-requires finished-requires returns-2)

@@ -16,7 +16,6 @@ use Rattle.arena.proofs.Soundness.{sound-open}
 use Rattle.arena.proofs.View.{holding-held}
 use Rattle.calls.specs.Allocate.{atPointer}
 use Rattle.calls.specs.Free.{freed}
-use borrow.Author.Needs.{needs}
 use Rattle.calls.proofs.free.free_tested.Statement.{statement}
 use Rattle.calls.proofs.free.free_tested.Tie as tie
 

@@ -1,7 +1,9 @@
 -- `calls::resize::resize` meets its contract: an unsound record or another region's length is refused, and the rest is the sound record's.
 -- Assumes nothing.
 use Prim.Native.Nat.{ℕ, min}
+use mathlib.Core.Bool.{true}
 use mathlib.Core.Path.{_≡_, sym, _∙_, ap}
+use Rattle.arena.specs.Sound.{soundOf}
 use lib.ListN.{length}
 use Rattle.arena.specs.Record.{heldOf}
 use Rattle.calls.specs.declared.Allocation.{Allocation}
@@ -53,18 +55,29 @@ returns c =
 enum-told : tie.Need-enum-told
 enum-told c = search needs
 
-resize-sound-requires : tie.Need-resize-sound-requires
-resize-sound-requires c κs =
-    let t = c .before .before .before in
+-- past the tests the record is sound, and it is lent its own region
+lent : (c : tie.After-enum-told) →
+    let s = start (c .before .before) .args in
+    (soundOf (s .t1) ≡ true) × (length (s .region .now) ≡ s .t1 .head .region)
+lent c =
+    let t = c .before .before in
     let s = start t .args in
-    let lent = lent-passes (s .t1) (length (s .region .now)) (tests-pass _ (sym (c .before .enum-told .given .1) ∙ t .lent-answer .ensures)) in
-    (lent .sound, lent .whole)
+    let passed = lent-passes (s .t1) (length (s .region .now)) (tests-pass _ (sym (c .enum-told .given .1) ∙ t .lent-answer .ensures)) in
+    (passed .sound, passed .whole)
+
+resize-placed-requires : tie.Need-resize-placed-requires
+resize-placed-requires c κs = lent (c .before .before .before .before .before .before)
+
+settled-requires : tie.Need-settled-requires
+settled-requires c κs = lent (c .before .before .before .before .before .before .before .before .before) .0
 
 same-length : tie.Need-same-length
 same-length c = search needs
 
 returns-2 : tie.Need-returns-2
-returns-2 c = c .before .before .resize-sound .ensures
+returns-2 c =
+    let placed = c .before .before .before .resize-placed .ensures in
+    (c .settled .ensures ∙ placed .0, placed .1)
 
 pub resize-spec : {M : Type 1} → statement M
 resize-spec =
@@ -75,6 +88,7 @@ resize-spec =
     refused-requires
     returns
     enum-told
-    resize-sound-requires
+    resize-placed-requires
+    settled-requires
     same-length
     returns-2)

@@ -1,7 +1,9 @@
 -- `calls::shrink::shrink` meets its contract: an unsound record or another region's length is refused, and the rest is the sound record's.
 -- Assumes nothing.
 use Prim.Native.Nat.{ℕ}
+use mathlib.Core.Bool.{true}
 use mathlib.Core.Path.{_≡_, sym, _∙_, ap}
+use Rattle.arena.specs.Sound.{soundOf}
 use lib.Dec.{ltb}
 use lib.ListN.{length}
 use Rattle.arena.specs.Record.{heldOf}
@@ -53,18 +55,29 @@ returns c =
 enum-told : tie.Need-enum-told
 enum-told c = search needs
 
-shrink-sound-requires : tie.Need-shrink-sound-requires
-shrink-sound-requires c κs =
-    let t = c .before .before .before in
+-- past the tests the record is sound, and it is lent its own region
+lent : (c : tie.After-enum-told) →
+    let s = start (c .before .before) .args in
+    (soundOf (s .t1) ≡ true) × (length (s .region .now) ≡ s .t1 .head .region)
+lent c =
+    let t = c .before .before in
     let s = start t .args in
-    let lent = lent-passes (s .t1) (length (s .region .now)) (tests-pass _ (sym (c .before .enum-told .given .1) ∙ t .lent-answer .ensures)) in
-    (lent .sound, lent .whole)
+    let passed = lent-passes (s .t1) (length (s .region .now)) (tests-pass _ (sym (c .enum-told .given .1) ∙ t .lent-answer .ensures)) in
+    (passed .sound, passed .whole)
+
+shrink-placed-requires : tie.Need-shrink-placed-requires
+shrink-placed-requires c κs = lent (c .before .before .before .before .before .before)
+
+settled-requires : tie.Need-settled-requires
+settled-requires c κs = lent (c .before .before .before .before .before .before .before .before .before) .0
 
 same-length : tie.Need-same-length
 same-length c = search needs
 
 returns-2 : tie.Need-returns-2
-returns-2 c = c .before .before .shrink-sound .ensures
+returns-2 c =
+    let placed = c .before .before .before .shrink-placed .ensures in
+    (c .settled .ensures ∙ placed .0, placed .1)
 
 pub shrink-spec : {M : Type 1} → statement M
 shrink-spec =
@@ -75,6 +88,7 @@ shrink-spec =
     refused-requires
     returns
     enum-told
-    shrink-sound-requires
+    shrink-placed-requires
+    settled-requires
     same-length
     returns-2)

@@ -1,7 +1,9 @@
 -- `calls::tokens::allocate_with_token` meets its contract: an unsound record or another region's length is refused, and the rest is the sound
 -- record's. Assumes nothing.
 use Prim.Native.Nat.{ℕ}
-use mathlib.Core.Path.{sym, _∙_, ap}
+use mathlib.Core.Bool.{true}
+use mathlib.Core.Path.{_≡_, sym, _∙_, ap}
+use Rattle.arena.specs.Sound.{soundOf}
 use Rattle.rounding.proofs.Tests.{taken-false, left-true}
 use Rattle.arena.specs.Record.{heldOf}
 use Rattle.calls.specs.declared.Allocation.{Allocation}
@@ -43,14 +45,21 @@ returns-2 c =
     (ap (λ (got : Allocation). withToken got (tokenFor (heldOf a)))
     (allocate-region a _ (s .args .size) (s .args .align) sound (c .before .if2 .taken)))
 
-allocate-with-token-sound-requires : tie.Need-allocate-with-token-sound-requires
-allocate-with-token-sound-requires c κs = left-true (c .before .before .is-sound .ensures) (c .before .if1 .left)
+-- past the tests the record is sound
+sound : (c : tie.Else2) → soundOf (c .before .before .before .before .before .before .before .before .before .args .t1) ≡ true
+sound c = left-true (c .before .before .is-sound .ensures) (c .before .if1 .left)
+
+allocate-with-token-placed-requires : tie.Need-allocate-with-token-placed-requires
+allocate-with-token-placed-requires c κs = sound (c .before .before .before .before .before)
+
+settled-with-token-requires : tie.Need-settled-with-token-requires
+settled-with-token-requires c κs = sound (c .before .before .before .before .before .before)
 
 returns-3 : tie.Need-returns-3
 returns-3 c =
-    let s = c .before .before .before .before .before .before .before .before .before .before in
-    c .allocate-with-token-sound .ensures
-    ∙ sym (ap (λ (lent : ℕ). withTokenOf (s .args .t1) lent (s .args .size) (s .args .align)) (c .before .if2 .left))
+    let s = c .before .before .before .before .before .before .before .before .before .before .before .before .before .before .before .before in
+    c .settled-with-token .ensures ∙ c .before .allocate-with-token-placed .ensures
+    ∙ sym (ap (λ (lent : ℕ). withTokenOf (s .args .t1) lent (s .args .size) (s .args .align)) (c .before .before .before .before .before .before .before .if2 .left))
 
 pub allocate-with-token-spec : {M : Type 1} → statement M
 allocate-with-token-spec =
@@ -61,5 +70,6 @@ allocate-with-token-spec =
     returns
     refused-token-requires-2
     returns-2
-    allocate-with-token-sound-requires
+    allocate-with-token-placed-requires
+    settled-with-token-requires
     returns-3)
