@@ -116,7 +116,7 @@ fn ask(entry: usize, a: &mut Record, region: &mut [u8], source: &[u8], r: &mut R
 #[test]
 fn random_records_through_every_entry() {
     let mut r = Random(1);
-    let mut region: Vec<u8> = (0..LENGTH).map(|_| r.any() as u8).collect();
+    let mut region: Vec<u8> = (0..LENGTH + 16).map(|_| r.any() as u8).collect();
     let source: Vec<u8> = (0..100).map(|_| r.any() as u8).collect();
     let mut answered = [0; 9];
     for _ in 0..20_000 {
@@ -145,6 +145,7 @@ fn random_records_through_every_entry() {
             answered[refusal] += 1;
             assert_eq!(refusal != 1, sound, "{before:?}");
             assert_eq!(is_sound(&a), sound);
+            assert_eq!(region[lent..], bytes[lent..]);
             if refusal != 0 {
                 assert_eq!(a, before);
                 assert_eq!(region, bytes);
