@@ -21,6 +21,17 @@ fn the_example_of_document_01() -> Result<(), Refusal> {
 }
 
 #[test]
+fn the_smallest_region_for_a_chunk() -> Result<(), Refusal> {
+    for (length, at) in [(0, None), (495, None), (496, Some(447))] {
+        let mut region = vec![0; length];
+        let mut arena = Arena::new(&mut region)?;
+        let got = arena.allocate(1, 1).map(|block| block.offset());
+        assert_eq!(got, at.ok_or(Refusal::Room));
+    }
+    Ok(())
+}
+
+#[test]
 fn freeing_gives_back_the_newest_blocks_size_alone() -> Result<(), Refusal> {
     let mut region = [0; 1024];
     let mut arena = Arena::new(&mut region)?;
