@@ -39,13 +39,13 @@ module _ {a : Arena} {lent offset old oldAlign new newAlign : ℕ} where
   shrink-tested ch = record { request = request-tested (ch .request); inside = source-inside ch; downwards = ch .direction }
 
 -- the bytes of a block before a change and after it
-pub record Placed (lent offset old to new : ℕ) : Type 0 where
+pub record BothInside (lent offset old to new : ℕ) : Type 0 where
   pub source : offset + old ≤ lent
   pub room : to + new ≤ lent
 
 -- of any record and any numbers
 module _ (a : Arena) (lent offset old oldAlign new newAlign : ℕ) {to : ℕ} where
-  pub grow-served : growOf a lent offset old oldAlign new newAlign .answer ≡ At to → Placed lent offset old to new × (old ≤ new)
+  pub grow-served : growOf a lent offset old oldAlign new newAlign .answer ≡ At to → BothInside lent offset old to new × (old ≤ new)
   unfolding growOf
   grow-served e =
       let found =
@@ -54,7 +54,7 @@ module _ (a : Arena) (lent offset old oldAlign new newAlign : ℕ) {to : ℕ} wh
       let is = grow-result a lent offset old oldAlign new newAlign (found .passed) (found .gives) in
       (record { source = omega (arith, source-inside ch, ch .request .region); room = omega (arith, is .inside, found .there) }, ch .direction)
 
-  pub shrink-served : shrinkOf a lent offset old oldAlign new newAlign .answer ≡ At to → Placed lent offset old to new × (new ≤ old)
+  pub shrink-served : shrinkOf a lent offset old oldAlign new newAlign .answer ≡ At to → BothInside lent offset old to new × (new ≤ old)
   unfolding shrinkOf
   shrink-served e =
       let found =

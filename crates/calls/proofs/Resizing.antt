@@ -19,7 +19,7 @@ use Rattle.calls.specs.Tests.{acceptable, sizesTest, alignTest}
 use Rattle.calls.specs.Allocate.{allocateOf}
 use Rattle.calls.specs.Resize.{resizeIn, resizeTests, resizeOf}
 use Rattle.calls.specs.Inner.{changeTests}
-use Rattle.calls.proofs.Changing.{Placed}
+use Rattle.calls.proofs.Changing.{BothInside}
 use Rattle.calls.proofs.Results.{given-at, resize-result}
 use Rattle.calls.proofs.Writing.{carried-nothing}
 
@@ -54,7 +54,7 @@ module _ (a : Arena) (offset old align new : ℕ) where
   nothing-carried bytes (Refused r) e = refl
 
   -- of any record and any numbers: where a block is answered for one of a size above 0, its old and its new bytes lie in the region
-  pub resize-served : (lent : ℕ) → 0 < old → {to : ℕ} → resizeOf a lent offset old align new .answer ≡ At to → Placed lent offset old to new
+  pub resize-served : (lent : ℕ) → 0 < old → {to : ℕ} → resizeOf a lent offset old align new .answer ≡ At to → BothInside lent offset old to new
   unfolding resizeOf
   resize-served lent l e =
       let found = given-at a (refusedBy (resizeTests a lent offset old align new)) (resizeIn (a .head) (heldOf a) offset old align new) e in

@@ -15,7 +15,6 @@ use Rattle.arena.specs.Sound.{stateTest}
 use Rattle.calls.specs.declared.Given.{Given}
 use Rattle.calls.specs.declared.Given.the-variants.{At, Refused}
 use Rattle.calls.specs.declared.Token.{Token}
-use Rattle.calls.specs.declared.Allocation.{Allocation}
 use Rattle.calls.specs.declared.TokenAllocation.{TokenAllocation}
 use Rattle.calls.specs.Allocate.{allocateOf}
 

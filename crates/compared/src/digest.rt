@@ -1,5 +1,5 @@
 // The digest of a state: 36 bytes that differ, but for chance, where two states differ.
-ghost use Prim.Native.Nat.{_≤_, _<_};
+ghost use Prim.Native.Nat.{_<_};
 use crate::Turn;
 use crate::tape::lesser;
 use arena::Arena;

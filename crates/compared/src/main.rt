@@ -1,5 +1,5 @@
 // Replays a tape of requests to the arena and writes a digest of its state after each: our side of compare/, which says what the numbers are.
-ghost use Prim.Native.Nat.{_≤_, _<_};
+ghost use Prim.Native.Nat.{_<_};
 
 mod digest;
 mod tape;

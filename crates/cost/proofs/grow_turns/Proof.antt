@@ -1,5 +1,5 @@
 -- `cost::grow_turns` meets its contract: it is safe, and no more turns are taken than were asked for. Assumes nothing.
-use Prim.Native.Nat.{_≤_, _<_, _-_}
+use Prim.Native.Nat.{_≤_, _-_}
 use native.Mathlib.Omega.{arith}
 use lib.ListN.{length}
 use mathlib.Core.Path.{_≡_}

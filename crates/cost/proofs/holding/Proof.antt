@@ -1,5 +1,5 @@
 -- `cost::holding` meets its contract: each place is below 32. Assumes nothing.
-use Prim.Native.Nat.{_≤_, _<_, _-_}
+use Prim.Native.Nat.{_≤_, _-_}
 use native.Mathlib.Omega.{arith}
 use borrow.Author.Needs.{needs}
 use Rattle.cost.proofs.holding.Statement.{statement}

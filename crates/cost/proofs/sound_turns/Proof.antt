@@ -1,5 +1,5 @@
 -- `cost::sound_turns` meets its contract: it is safe, and no more turns are taken than were asked for. Assumes nothing.
-use Prim.Native.Nat.{_≤_, _<_, _-_}
+use Prim.Native.Nat.{_≤_, _-_}
 use native.Mathlib.Omega.{arith}
 use borrow.Author.Needs.{needs}
 use Rattle.cost.proofs.sound_turns.Statement.{statement}

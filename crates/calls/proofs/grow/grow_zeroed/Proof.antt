@@ -9,7 +9,7 @@ use Rattle.calls.specs.declared.Allocation.{Allocation}
 use Rattle.calls.specs.Bytes.{written, carried, afterGiven}
 use Rattle.calls.specs.Grow.{growBytes, growZeroedBytes}
 use Rattle.calls.proofs.Answering.{bytes-shown}
-use Rattle.calls.proofs.Changing.{Placed, grow-served}
+use Rattle.calls.proofs.Changing.{BothInside, grow-served}
 use borrow.Author.Needs.{needs}
 use Rattle.calls.proofs.grow.grow_zeroed.Statement.{statement}
 use Rattle.calls.proofs.grow.grow_zeroed.Tie as tie
@@ -48,7 +48,7 @@ returns c =
 -- the block that the grow gave
 served : (c : tie.After-fill-arg) →
     let s = c .before .before .before .before .before .before .before .before .before .args in
-    Placed (length (s .region .now)) (s .offset) (s .old) (c .before .before .answer .given .0 .0) (s .new) × (s .old ≤ s .new)
+    BothInside (length (s .region .now)) (s .offset) (s .old) (c .before .before .answer .given .0 .0) (s .new) × (s .old ≤ s .new)
 served c =
     let g = c .before .before .before .before .before .before in
     let s = g .before .before .before .args in
