@@ -68,6 +68,31 @@ fn main() {
                 served += 1;
             }
         }
+        21 => {
+            for _ in 0..turns {
+                let Ok(at) = bump.try_alloc_layout(layout(size)) else { break };
+                // SAFETY: as above, and the new size is the larger.
+                let Ok(to) = (unsafe { (&bump).grow_zeroed(black_box(at), layout(size), layout(size + 16)) }) else { break };
+                black_box(to);
+                served += 1;
+            }
+        }
+        // Elements of 8 bytes: the library copies and fills by elements, and aligns by them.
+        22 => {
+            let source = vec![7u64; size / 8];
+            for _ in 0..turns {
+                let Ok(at) = bump.try_alloc_slice_copy(black_box(&source)) else { break };
+                black_box(at);
+                served += 1;
+            }
+        }
+        23 => {
+            for _ in 0..turns {
+                let Ok(at) = bump.try_alloc_slice_fill_copy(size / 8, 7u64) else { break };
+                black_box(at);
+                served += 1;
+            }
+        }
         _ => {}
     }
     println!("{served}");

@@ -8,8 +8,9 @@ use Rattle.calls.specs.declared.Allocation.{Allocation}
 use Rattle.calls.specs.Allocate.{allocateOf}
 use Rattle.calls.specs.Grow.{growOf}
 use Rattle.calls.specs.Shrink.{shrinkOf}
+use Rattle.calls.specs.Resize.{resizeOf}
 use Rattle.calls.proofs.Keeping.{given-region}
-use Rattle.calls.proofs.StaysSound.{allocate-sound, grow-sound, shrink-sound}
+use Rattle.calls.proofs.StaysSound.{allocate-sound, grow-sound, shrink-sound, resize-sound}
 
 abbrev pub Lent : ℕ → Arena → Type 0
 Lent n a = (soundOf a ≡ true) × (n ≡ a .head .region)
@@ -32,3 +33,7 @@ module _ (n : ℕ) (a : Arena) (own : Lent n a) where
   pub shrink-lent : (r : Allocation) (lent offset old oldAlign new newAlign : ℕ) → r ≡ shrinkOf a lent offset old oldAlign new newAlign → Lent n (r .arena)
   unfolding shrinkOf
   shrink-lent r lent offset old oldAlign new newAlign e = after r _ e (shrink-sound a (own .0) lent offset old oldAlign new newAlign) (given-region _ a _)
+
+  pub resize-lent : (r : Allocation) (lent offset old align new : ℕ) → r ≡ resizeOf a lent offset old align new → Lent n (r .arena)
+  unfolding resizeOf
+  resize-lent r lent offset old align new e = after r _ e (resize-sound a (own .0) lent offset old align new) (given-region _ a _)

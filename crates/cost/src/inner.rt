@@ -13,6 +13,7 @@ use calls::Given;
 use calls::allocate::allocate_placed;
 use calls::free::free_ended;
 use calls::grow::grow_placed;
+use calls::resize::resize_placed;
 use calls::shrink::shrink_placed;
 use calls::tokens::allocate_with_token_placed;
 use calls::tokens::cancel_ended;
@@ -88,6 +89,42 @@ fn grow_turns(a: Arena, region: &mut [u8], turns: usize, size: usize) -> usize
             8,
             size + 16,
             8,
+        );
+        let done = after.answer;
+        let Given::At(_) = done else {
+            return turn;
+        };
+        let change = after.change;
+        head = make(head, &mut starts, &mut sizes, &mut pointers, change);
+    }
+    turns
+}
+
+fn resize_turns(a: Arena, region: &mut [u8], turns: usize, size: usize) -> usize
+    requires { ⌜ (soundOf a ≡ true) × (length (now region) ≡ a .head .region) × (size < 500000000) ⌝ }
+{
+    let mut head = a.head;
+    let mut starts = a.starts;
+    let mut sizes = a.sizes;
+    let mut pointers = a.pointers;
+    for turn in 0..turns {
+        let got = allocate_placed(head, &starts, &sizes, &pointers, size, 8);
+        let answer = got.answer;
+        let Given::At(at) = answer else {
+            return turn;
+        };
+        let change = got.change;
+        head = make(head, &mut starts, &mut sizes, &mut pointers, change);
+        let after = resize_placed(
+            head,
+            &starts,
+            &sizes,
+            &pointers,
+            region,
+            at,
+            size,
+            8,
+            size + 16,
         );
         let done = after.answer;
         let Given::At(_) = done else {
@@ -213,6 +250,7 @@ fn turns_of(what: usize, a: Arena, region: &mut [u8], turns: usize, size: usize)
         5 => token_turns(a, turns, size),
         6 => cancel_turns(a, turns, size),
         7 => reset_turns(a, turns, size),
+        8 => resize_turns(a, region, turns, size),
         _ => 0,
     }
 }

@@ -6,6 +6,7 @@
 ghost use Prim.Native.Nat.{_≤_, _<_};
 
 mod inner;
+mod writing;
 
 use arena::Answer;
 use arena::Arena;
@@ -221,6 +222,9 @@ fn reset_turns(a: Arena, region: &[u8], turns: usize, size: usize) -> usize {
 fn served(what: usize, a: Arena, region: &mut [u8], turns: usize, size: usize) -> usize
     requires { ⌜ (turns < 1000000000) × (size < 500000000) ⌝ }
 {
+    if 20 <= what {
+        return writing::served(what - 20, a, region, turns, size);
+    }
     if 10 <= what {
         return inner::served(what - 10, a, region, turns, size);
     }
