@@ -28,7 +28,7 @@ walkAnswer a lent = lendAnswer (refusedBy (walkTests a lent))
 abbrev pub chunkPart : List ℕ → Chunk → List ℕ
 chunkPart bytes c = part bytes (c .pointer) (endOf c - c .pointer)
 
--- "each chunk's bytes, newest first. Refused, it gives nothing"
+-- "each chunk's bytes .., newest first. Refused, it gives nothing"
 unfoldable pub partsOf : Answer → List ℕ → List Chunk → List (List ℕ)
 partsOf Done bytes cs = map (chunkPart bytes) cs
 partsOf (Refused r) bytes cs = []
