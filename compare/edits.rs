@@ -1,5 +1,5 @@
-// Writes one module for each deliberate mistake: the model with one line wrong. edits MODEL MISTAKES FOLDER > OUT
-// FOLDER has the must-fail edits of our calls; each must be among the mistakes, by its file's name.
+// Writes one module for each deliberate mistake: the model with one line wrong. edits MODEL MISTAKES FOLDER.. > OUT
+// The folders have the must-fail edits of our calls; each must be among the mistakes, by its file's name.
 use std::fs::{read_dir, read_to_string};
 
 fn main() {
@@ -17,7 +17,8 @@ fn main() {
         println!("#[allow(unused)]\nmod wrong{} {{\n{}}}\n", names.len(), model.replace(old, new));
         names.push(name.to_string());
     }
-    for edit in read_dir(&args[3]).expect("the must-fail edits") {
+    let folders = args[3..].iter();
+    for edit in folders.flat_map(|folder| read_dir(folder).expect("the must-fail edits")) {
         let path = edit.expect("an edit").path();
         let name = path.file_stem().unwrap().to_str().unwrap();
         assert!(names.iter().any(|n| n == name), "no mistake is named for the edit {name}");

@@ -1,6 +1,6 @@
 -- A change of a sound record is made by writing at the last held place, or at the first unused one. Assumes nothing.
 use Prim.Native.Nat.{ℕ, _+_, _-_, _≤_, _<_}
-use mathlib.Core.List.{List, []}
+use mathlib.Core.List.{List, [], _∷_}
 use mathlib.Core.Path.{_≡_, sym, _∙_, ap}
 use lib.ListN.{replicate, set}
 use native.Mathlib.Omega.{arith}
@@ -72,6 +72,19 @@ module _ {a : Arena} (s : Sound a) where
       ∙ sym (ap (holding (a .head)) empty)
       ∙ holding-held s)
 
+  -- of one chunk only the pointer goes elsewhere
+  pub keeps-only : a .head .count ≡ 1 →
+      let c = chunkAt (a .starts) (a .sizes) (a .pointers) 0 in
+      recordOf (a .head) (a .starts) (a .sizes) (set (a .pointers) 0 (endOf c)) ≡ holding (a .head) (keptByReset (heldOf a))
+  unfolding keptByReset chunksOf
+  keeps-only one =
+      let c = chunkAt (a .starts) (a .sizes) (a .pointers) 0 in
+      let single : heldOf a ≡ c ∷ [] = ap (chunksOf (a .starts) (a .sizes) (a .pointers)) one in
+      sym
+      (ap (λ (cs : List Chunk). holding (a .head) (keptByReset cs)) single
+      ∙ holding-moved s single (endOf c)
+      ∙ ap (λ (k : ℕ). recordOf (a .head) (a .starts) (a .sizes) (set (a .pointers) (k - 1) (endOf c))) one)
+
   -- the current chunk goes to the first place, and the others are emptied
   pub keeps-current : 0 < a .head .count →
       let c = chunkAt (a .starts) (a .sizes) (a .pointers) (a .head .count - 1) in
@@ -81,8 +94,8 @@ module _ {a : Arena} (s : Sound a) where
   keeps-current l =
       sym (ap (λ (cs : List Chunk). holding (a .head) (keptByReset cs)) (chunks-newest (a .starts) (a .sizes) (a .pointers) (a .head .count) l))
 
-  -- its end is a number
-  pub current-ends : 0 < a .head .count → endOf (chunkAt (a .starts) (a .sizes) (a .pointers) (a .head .count - 1)) ≤ most
-  current-ends l =
-      chunks-at (a .starts) (a .sizes) (a .pointers) (λ d. endOf d ≤ most) {i = a .head .count - 1} {k = a .head .count} (omega arith)
+  -- a held chunk's end is a number
+  pub held-ends : (i : ℕ) → i < a .head .count → endOf (chunkAt (a .starts) (a .sizes) (a .pointers) i) ≤ most
+  held-ends i l =
+      chunks-at (a .starts) (a .sizes) (a .pointers) (λ d. endOf d ≤ most) {i = i} {k = a .head .count} l
       (every-map (λ d k. omega (arith, k .inside, s .head .region-bound)) (heldOf a) (s .chunks))

@@ -27,6 +27,11 @@ pub fn keep_current(
     if count == 0 {
         return h;
     }
+    // One chunk stands in its place already.
+    if count == 1 {
+        pointers[0] = starts[0] + sizes[0];
+        return h;
+    }
     let last = count - 1;
     let start = starts[last];
     let size = sizes[last];

@@ -2,16 +2,16 @@
 -- Assumes nothing.
 use Prim.Native.Nat.{ℕ, _+_, _-_, _≤_, _<_}
 use native.Mathlib.Omega.{arith}
-use mathlib.Core.Bool.{_&&_}
+use mathlib.Core.Bool.{true, _&&_}
 use mathlib.Core.List.{List, [], _∷_}
 use mathlib.Core.Option.{Option, none, some, Option·map, Option·none-ne-some}
 use mathlib.Core.Path.{_≡_, refl}
 use lib.Dec.{leb}
 use borrow.Author.Tests.{leb-true}
-use Rattle.rounding.specs.Round.{roundDown}
+use Rattle.rounding.specs.Round.{roundDown, oneBit}
 use Rattle.rounding.proofs.First.{failed-only}
 use Rattle.rounding.proofs.Tests.{refute, and-left, and-right}
-use Rattle.rounding.proofs.Powers.{power-positive}
+use Rattle.rounding.proofs.Powers.{power-one-bit}
 use Rattle.arena.specs.declared.Head.{Head}
 use Rattle.arena.specs.declared.Arena.{Arena}
 use Rattle.arena.specs.declared.Chunk.{Chunk}
@@ -25,11 +25,11 @@ use Rattle.calls.specs.Inner.{currentPointer, Tested}
 
 -- what the current chunk's arithmetic leans on
 pub tested-bounds : {a : Arena} {size align : ℕ} → Tested a size align →
-    (0 < a .head .minimum) × (a .head .minimum ≤ largestMinimum) × (0 < align) × (align ≤ largestAlign) × (size ≤ most)
+    (oneBit (a .head .minimum) ≡ true) × (a .head .minimum ≤ largestMinimum) × (oneBit align ≡ true) × (align ≤ largestAlign) × (size ≤ most)
 tested-bounds {a} {size} {align} t =
     let head = sound-open a (t .sound) .head in
     let allowed = align-open align (t .align-allowed) in
-    (power-positive (head .minimum-power), head .minimum-bound, power-positive (allowed .power), allowed .bound, t .size-bound)
+    (power-one-bit (head .minimum-power), head .minimum-bound, power-one-bit (allowed .power), allowed .bound, t .size-bound)
 
 module _ (minimum : ℕ) (c : Chunk) (size align : ℕ) where
   -- a chunk gives nothing where the needed bytes do not stand above its start

@@ -11,6 +11,7 @@ pub mod Giving
 pub mod Growing
 pub mod Keeping
 pub mod Kept
+pub mod Last
 pub mod Lending
 pub mod Moving
 pub mod Needing

@@ -216,3 +216,9 @@ module _ (bytes : List ℕ) (from to i k : ℕ) (source : from + (i + k) ≤ len
           carried-elsewhere last from to i source′ room′ x (omega arith)
           ∙ carried-within bytes (from + i) (to + i) k (omega arith) (omega arith) x (omega arith) (omega arith)
           ∙ ap (λ (k : ℕ). getD bytes k 0) (omega arith)
+
+-- to read a block whole and then to write it is to carry it
+pub carried-block : (bytes : List ℕ) (from to k : ℕ) {block after : List ℕ} → block ≡ part bytes from k → after ≡ written bytes to block
+    → after ≡ carried bytes from to k
+unfolding carried
+carried-block bytes from to k read stored = stored ∙ ap (written bytes to) read

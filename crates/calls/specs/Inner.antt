@@ -11,6 +11,7 @@ use Rattle.arena.specs.declared.Chunk.{Chunk}
 use Rattle.arena.specs.declared.Answer.{Answer}
 use Rattle.arena.specs.declared.Outcome.{Outcome}
 use Rattle.arena.specs.declared.change.Change.{Change}
+use Rattle.arena.specs.declared.change.Change.the-variants.{Moved}
 use Rattle.arena.specs.declared.Refusal.the-variants.{Direction}
 use Rattle.arena.specs.Inner.{changedBy}
 use Rattle.arena.specs.Numbers.{most}
@@ -18,6 +19,7 @@ use Rattle.arena.specs.Record.{heldOf}
 use Rattle.arena.specs.Refusals.{Test, test, refusedBy}
 use Rattle.arena.specs.Sound.{allowedAlign, soundOf, stateTest}
 use Rattle.calls.specs.declared.Allocation.{Allocation}
+use Rattle.calls.specs.declared.Given.the-variants.{At}
 use Rattle.calls.specs.declared.Placed.{Placed}
 use Rattle.calls.specs.declared.Ended.{Ended}
 use Rattle.calls.specs.declared.Token.{Token}
@@ -27,7 +29,7 @@ use Rattle.calls.specs.declared.fast.Fast.{Fast}
 use Rattle.calls.specs.declared.fast.Fast.the-variants.{Room, Full}
 use Rattle.calls.specs.Allocate.{atPointer, chunkGives}
 use Rattle.calls.specs.Token.{tokenGiven}
-use Rattle.calls.specs.Tests.{regionTest, sizeTest, sizesTest, alignTest, alignsTest, blockTest}
+use Rattle.calls.specs.Tests.{acceptable, regionTest, sizeTest, sizesTest, alignTest, alignsTest, blockTest}
 use Rattle.calls.specs.Write.{lendAnswer}
 
 -- the answer's case: a new pointer, or none
@@ -52,6 +54,10 @@ placedOf a placed = record { answer = placed .answer; arena = changedBy (placed 
 
 abbrev pub PlacedBy : (Arena → Allocation) → Arena → Placed → Type 0
 PlacedBy call a placed = placedOf a placed ≡ call a
+
+-- what the fast part of such a form answers: where it has a pointer, moving there is the whole call; where it has none, nothing is said
+abbrev pub FastBy : (Arena → Allocation) → Arena → Fast → Type 0
+FastBy call a fast = (p : ℕ) → fast ≡ Room p → PlacedBy call a (record { answer = At p; change = Moved p })
 
 abbrev pub endedOf : Arena → Ended → Outcome
 endedOf a ended = record { answer = ended .answer; arena = changedBy (ended .change) a }
@@ -87,6 +93,13 @@ changeTests a offset old oldAlign new newAlign backwards =
 
 abbrev pub firstOf : List Test → Answer
 firstOf ts = lendAnswer (refusedBy ts)
+
+-- what is known of a block that is found to be the last given out: it is at the current pointer, and no test of a named block refuses it
+pub record LastBlock (a : Arena) (offset size align : ℕ) : Type 0 where
+  pub at-pointer : atPointer (heldOf a) offset ≡ true
+  pub size-bound : size ≤ most
+  pub align-allowed : allowedAlign align ≡ true
+  pub block : acceptable (heldOf a) offset size align ≡ true
 
 -- the pointer that a block at the current one goes down to when it grows in place
 unfoldable pub grownPointer : ℕ → List Chunk → ℕ → ℕ → ℕ → ℕ → ℕ → Option ℕ

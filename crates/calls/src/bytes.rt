@@ -61,14 +61,38 @@ fn carry_up(region: &mut [u8], from: usize, to: usize, n: usize)
     }
 }
 
+// As many bytes as the block has, which holds them on the way: all are read before any is stored.
+fn carry_through(region: &mut [u8], block: &mut [u8], from: usize, to: usize)
+    requires { ⌜ (from + length (now block) ≤ length (now region)) × (to + length (now block) ≤ length (now region)) ⌝ }
+    ensures { λ r. ⌜ now (region .exit) ≡ carried (now (region .entry)) from to (length (now (block .entry))) ⌝ }
+{
+    let end = from + block.len();
+    set_from(block, &region[from..end]);
+    copy_from(region, to, block);
+}
+
+// Few bytes: two short copies by the C library cost less than a loop, and it does not matter what bytes the two places share.
+fn carry_short(region: &mut [u8], from: usize, to: usize, n: usize)
+    requires { ⌜ (n ≤ 64) × (from + n ≤ length (now region)) × (to + n ≤ length (now region)) ⌝ }
+    ensures { λ r. ⌜ now (region .exit) ≡ carried (now (region .entry)) from to n ⌝ }
+{
+    let mut block = [0u8; 64];
+    carry_through(region, &mut block[..n], from, to);
+}
+
 // Bytes that stay where they are cost nothing.
 pub fn carry(region: &mut [u8], from: usize, to: usize, n: usize)
     requires { ⌜ (from + n ≤ length (now region)) × (to + n ≤ length (now region)) ⌝ }
     ensures { λ r. ⌜ now (region .exit) ≡ carried (now (region .entry)) from to n ⌝ }
 {
-    if to < from {
+    if from == to {
+        return;
+    }
+    if n <= 64 {
+        carry_short(region, from, to, n);
+    } else if to < from {
         carry_down(region, from, to, n);
-    } else if from < to {
+    } else {
         carry_up(region, from, to, n);
     }
 }

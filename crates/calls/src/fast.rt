@@ -1,13 +1,14 @@
 // The current chunk's answer, without the ladder (`try_alloc_layout_fast` in the Rust).
 ghost use mathlib.Core.Path.{_≡_};
-ghost use Prim.Native.Nat.{_≤_, _<_};
+ghost use mathlib.Core.Bool.{true};
+ghost use Prim.Native.Nat.{_≤_};
+ghost use Rattle.rounding.specs.Round.{oneBit};
 ghost use Rattle.arena.specs.Numbers.{most, largestAlign, largestMinimum};
 ghost use Rattle.arena.specs.Record.{chunksOf, recordOf};
 ghost use Rattle.calls.specs.Allocate.{chunkGives};
 ghost use Rattle.calls.specs.Inner.{fastOf, currentPointer, Tested};
 use arena::Chunk;
 use arena::Head;
-use arena::sizing::larger;
 use arena::table::chunk_at;
 
 pub enum Fast {
@@ -17,14 +18,16 @@ pub enum Fast {
 
 // The new pointer in this chunk, which is also the block's offset.
 pub fn chunk_gives(minimum: usize, c: Chunk, size: usize, align: usize) -> Fast
-    requires { ⌜ (0 < minimum) × (minimum ≤ largestMinimum) × (0 < align) × (align ≤ largestAlign) × (size ≤ most) ⌝ }
+    requires { ⌜ (oneBit minimum ≡ true) × (minimum ≤ largestMinimum) × (oneBit align ≡ true) × (align ≤ largestAlign) × (size ≤ most) ⌝ }
     ensures { λ r. ⌜ r ≡ fastOf (chunkGives minimum c size align) ⌝ }
 {
-    let top = rounding::round_down_to(c.pointer, align);
+    let top = rounding::down_to_power(c.pointer, align);
     if top < c.start {
         return Fast::Full;
     }
-    let needed = rounding::round_up_to(size, larger(align, minimum));
+    // Rounded up to both, which is to the larger of the two.
+    let aligned = rounding::up_to_power(size, align);
+    let needed = rounding::up_to_power(aligned, minimum);
     if top - c.start < needed {
         return Fast::Full;
     }

@@ -46,7 +46,7 @@ fn free_tested<'a>(
     if !is_at_pointer(h, starts, sizes, pointers, offset) {
         return Change::Same;
     }
-    Change::Moved(rounding::round_up_to(offset + size, h.minimum))
+    Change::Moved(rounding::up_to_power(offset + size, h.minimum))
 }
 
 // On a record that is known to be sound.

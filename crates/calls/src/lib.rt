@@ -1,16 +1,12 @@
 // The calls of document 01 by value: the record goes in, and comes back beside the answer.
 pub mod allocate;
-mod block;
+pub mod block;
 pub mod bytes;
-mod fast;
+pub mod fast;
 pub mod free;
-pub mod grow;
 pub mod lend;
-mod refusals;
-pub mod resize;
+pub mod refusals;
 pub mod settle;
-pub mod shrink;
-pub mod tokens;
 pub mod write;
 
 use arena::Answer;

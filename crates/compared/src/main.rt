@@ -156,14 +156,17 @@ fn ask(a: Arena, region: &mut [u8], source: &mut [u8], record: &[u8], code: u8, 
     match code {
         1 => given(calls::allocate::allocate(a, region, n1, n2), lent),
         2 => done(calls::free::free(a, n1, n2, n3), lent),
-        3 => given(calls::grow::grow(a, region, n1, n2, n3, n4, n5), lent),
-        4 => given(calls::shrink::shrink(a, region, n1, n2, n3, n4, n5), lent),
+        3 => given(reshape::grow::grow(a, region, n1, n2, n3, n4, n5), lent),
+        4 => given(reshape::shrink::shrink(a, region, n1, n2, n3, n4, n5), lent),
         5 => done(a.reset(), lent),
         6 => done(a.set_allocation_limit(n1 * 4294967296 + n2), lent),
         7 => done(a.no_allocation_limit(), lent),
-        8 => given_with_token(calls::tokens::allocate_with_token(a, region, n1, n2), lent),
+        8 => given_with_token(
+            takeback::tokens::allocate_with_token(a, region, n1, n2),
+            lent,
+        ),
         9 => done(
-            calls::tokens::cancel(
+            takeback::tokens::cancel(
                 a,
                 n1,
                 Token {
@@ -173,9 +176,9 @@ fn ask(a: Arena, region: &mut [u8], source: &mut [u8], record: &[u8], code: u8, 
             ),
             lent,
         ),
-        10 => given(calls::resize::resize(a, region, n1, n2, n3, n4), lent),
+        10 => given(reshape::resize::resize(a, region, n1, n2, n3, n4), lent),
         11 => given(
-            calls::grow::grow_zeroed(a, region, n1, n2, n3, n4, n5),
+            reshape::grow::grow_zeroed(a, region, n1, n2, n3, n4, n5),
             lent,
         ),
         12 => copy_in(a, region, source, n1, n2, p),

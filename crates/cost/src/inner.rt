@@ -1,7 +1,11 @@
-// The same turns by the inner forms, on a record that was found sound once and is changed in place.
+// Turns of the inner forms, on a record that was found sound once and is changed in place. What needs a block is given one in the same turn: its own cost is
+// the turn's less that of the allocate alone.
+//
+// A second call names the block by numbers of the list, and by the offset that was answered, changed by a number of the list that is 0: that it is the
+// block at the pointer is not known when the program is compiled.
 ghost use mathlib.Core.Path.{_≡_};
 ghost use mathlib.Core.Bool.{true};
-ghost use Prim.Native.Nat.{_<_};
+ghost use Prim.Native.Nat.{_≤_, _<_};
 ghost use lib.ListN.{length};
 ghost use Rattle.arena.specs.Sound.{soundOf};
 use arena::Answer;
@@ -10,23 +14,62 @@ use arena::change::Change;
 use arena::change::make;
 use arena::sound::is_sound;
 use calls::Given;
+use calls::Token;
 use calls::allocate::allocate_placed;
 use calls::free::free_ended;
-use calls::grow::grow_placed;
-use calls::resize::resize_placed;
-use calls::shrink::shrink_placed;
-use calls::tokens::allocate_with_token_placed;
-use calls::tokens::cancel_ended;
+use reshape::grow::grow_placed;
+use reshape::shrink::shrink_placed;
+use takeback::tokens::allocate_with_token_placed;
+use takeback::tokens::cancel_ended;
 
-fn allocate_turns(a: Arena, turns: usize, size: usize) -> usize
-    requires { ⌜ soundOf a ≡ true ⌝ }
+// What a turn asks for first.
+struct First {
+    size: usize,
+    align: usize,
+}
+
+fn first_of(numbers: &[usize; 1024], turn: usize) -> First
+    requires { ⌜ turn < 128 ⌝ }
+{
+    let i = 8 * turn;
+    First {
+        size: numbers[i],
+        align: numbers[i + 1],
+    }
+}
+
+// What its second call names and asks for; nothing is 0.
+struct Second {
+    old: usize,
+    old_align: usize,
+    new: usize,
+    new_align: usize,
+    nothing: usize,
+}
+
+fn second_of(numbers: &[usize; 1024], turn: usize) -> Second
+    requires { ⌜ turn < 128 ⌝ }
+{
+    let i = 8 * turn;
+    Second {
+        old: numbers[i + 2],
+        old_align: numbers[i + 3],
+        new: numbers[i + 4],
+        new_align: numbers[i + 5],
+        nothing: numbers[i + 6],
+    }
+}
+
+fn allocate_turns(a: Arena, numbers: &[usize; 1024], turns: usize) -> usize
+    requires { ⌜ (soundOf a ≡ true) × (turns ≤ 128) ⌝ }
 {
     let mut head = a.head;
     let mut starts = a.starts;
     let mut sizes = a.sizes;
     let mut pointers = a.pointers;
     for turn in 0..turns {
-        let got = allocate_placed(head, &starts, &sizes, &pointers, size, 8);
+        let n = first_of(numbers, turn);
+        let got = allocate_placed(head, &starts, &sizes, &pointers, n.size, n.align);
         let answer = got.answer;
         let Given::At(_) = answer else {
             return turn;
@@ -37,22 +80,32 @@ fn allocate_turns(a: Arena, turns: usize, size: usize) -> usize
     turns
 }
 
-fn free_turns(a: Arena, turns: usize, size: usize) -> usize
-    requires { ⌜ soundOf a ≡ true ⌝ }
+fn free_turns(a: Arena, numbers: &[usize; 1024], turns: usize) -> usize
+    requires { ⌜ (soundOf a ≡ true) × (turns ≤ 128) ⌝ }
 {
     let mut head = a.head;
     let mut starts = a.starts;
     let mut sizes = a.sizes;
     let mut pointers = a.pointers;
     for turn in 0..turns {
-        let got = allocate_placed(head, &starts, &sizes, &pointers, size, 8);
+        let n = first_of(numbers, turn);
+        let got = allocate_placed(head, &starts, &sizes, &pointers, n.size, n.align);
         let answer = got.answer;
         let Given::At(at) = answer else {
             return turn;
         };
         let change = got.change;
         head = make(head, &mut starts, &mut sizes, &mut pointers, change);
-        let after = free_ended(head, &starts, &sizes, &pointers, at, size, 8);
+        let m = second_of(numbers, turn);
+        let after = free_ended(
+            head,
+            &starts,
+            &sizes,
+            &pointers,
+            at ^ m.nothing,
+            m.old,
+            m.old_align,
+        );
         let done = after.answer;
         let Answer::Done = done else {
             return turn;
@@ -63,32 +116,34 @@ fn free_turns(a: Arena, turns: usize, size: usize) -> usize
     turns
 }
 
-fn grow_turns(a: Arena, region: &mut [u8], turns: usize, size: usize) -> usize
-    requires { ⌜ (soundOf a ≡ true) × (length (now region) ≡ a .head .region) × (size < 500000000) ⌝ }
+fn grow_turns(a: Arena, region: &mut [u8], numbers: &[usize; 1024], turns: usize) -> usize
+    requires { ⌜ (soundOf a ≡ true) × (length (now region) ≡ a .head .region) × (turns ≤ 128) ⌝ }
 {
     let mut head = a.head;
     let mut starts = a.starts;
     let mut sizes = a.sizes;
     let mut pointers = a.pointers;
     for turn in 0..turns {
-        let got = allocate_placed(head, &starts, &sizes, &pointers, size, 8);
+        let n = first_of(numbers, turn);
+        let got = allocate_placed(head, &starts, &sizes, &pointers, n.size, n.align);
         let answer = got.answer;
         let Given::At(at) = answer else {
             return turn;
         };
         let change = got.change;
         head = make(head, &mut starts, &mut sizes, &mut pointers, change);
+        let m = second_of(numbers, turn);
         let after = grow_placed(
             head,
             &starts,
             &sizes,
             &pointers,
             region,
-            at,
-            size,
-            8,
-            size + 16,
-            8,
+            at ^ m.nothing,
+            m.old,
+            m.old_align,
+            m.new,
+            m.new_align,
         );
         let done = after.answer;
         let Given::At(_) = done else {
@@ -100,68 +155,34 @@ fn grow_turns(a: Arena, region: &mut [u8], turns: usize, size: usize) -> usize
     turns
 }
 
-fn resize_turns(a: Arena, region: &mut [u8], turns: usize, size: usize) -> usize
-    requires { ⌜ (soundOf a ≡ true) × (length (now region) ≡ a .head .region) × (size < 500000000) ⌝ }
+fn shrink_turns(a: Arena, region: &mut [u8], numbers: &[usize; 1024], turns: usize) -> usize
+    requires { ⌜ (soundOf a ≡ true) × (length (now region) ≡ a .head .region) × (turns ≤ 128) ⌝ }
 {
     let mut head = a.head;
     let mut starts = a.starts;
     let mut sizes = a.sizes;
     let mut pointers = a.pointers;
     for turn in 0..turns {
-        let got = allocate_placed(head, &starts, &sizes, &pointers, size, 8);
+        let n = first_of(numbers, turn);
+        let got = allocate_placed(head, &starts, &sizes, &pointers, n.size, n.align);
         let answer = got.answer;
         let Given::At(at) = answer else {
             return turn;
         };
         let change = got.change;
         head = make(head, &mut starts, &mut sizes, &mut pointers, change);
-        let after = resize_placed(
-            head,
-            &starts,
-            &sizes,
-            &pointers,
-            region,
-            at,
-            size,
-            8,
-            size + 16,
-        );
-        let done = after.answer;
-        let Given::At(_) = done else {
-            return turn;
-        };
-        let change = after.change;
-        head = make(head, &mut starts, &mut sizes, &mut pointers, change);
-    }
-    turns
-}
-
-fn shrink_turns(a: Arena, region: &mut [u8], turns: usize, size: usize) -> usize
-    requires { ⌜ (soundOf a ≡ true) × (length (now region) ≡ a .head .region) × (size < 500000000) ⌝ }
-{
-    let mut head = a.head;
-    let mut starts = a.starts;
-    let mut sizes = a.sizes;
-    let mut pointers = a.pointers;
-    for turn in 0..turns {
-        let got = allocate_placed(head, &starts, &sizes, &pointers, size + size, 8);
-        let answer = got.answer;
-        let Given::At(at) = answer else {
-            return turn;
-        };
-        let change = got.change;
-        head = make(head, &mut starts, &mut sizes, &mut pointers, change);
+        let m = second_of(numbers, turn);
         let after = shrink_placed(
             head,
             &starts,
             &sizes,
             &pointers,
             region,
-            at,
-            size + size,
-            8,
-            size,
-            8,
+            at ^ m.nothing,
+            m.old,
+            m.old_align,
+            m.new,
+            m.new_align,
         );
         let done = after.answer;
         let Given::At(_) = done else {
@@ -173,15 +194,16 @@ fn shrink_turns(a: Arena, region: &mut [u8], turns: usize, size: usize) -> usize
     turns
 }
 
-fn token_turns(a: Arena, turns: usize, size: usize) -> usize
-    requires { ⌜ soundOf a ≡ true ⌝ }
+fn token_turns(a: Arena, numbers: &[usize; 1024], turns: usize) -> usize
+    requires { ⌜ (soundOf a ≡ true) × (turns ≤ 128) ⌝ }
 {
     let mut head = a.head;
     let mut starts = a.starts;
     let mut sizes = a.sizes;
     let mut pointers = a.pointers;
     for turn in 0..turns {
-        let got = allocate_with_token_placed(head, &starts, &sizes, &pointers, size, 8);
+        let n = first_of(numbers, turn);
+        let got = allocate_with_token_placed(head, &starts, &sizes, &pointers, n.size, n.align);
         let answer = got.answer;
         let Given::At(_) = answer else {
             return turn;
@@ -192,22 +214,28 @@ fn token_turns(a: Arena, turns: usize, size: usize) -> usize
     turns
 }
 
-fn cancel_turns(a: Arena, turns: usize, size: usize) -> usize
-    requires { ⌜ soundOf a ≡ true ⌝ }
+fn cancel_turns(a: Arena, numbers: &[usize; 1024], turns: usize) -> usize
+    requires { ⌜ (soundOf a ≡ true) × (turns ≤ 128) ⌝ }
 {
     let mut head = a.head;
     let mut starts = a.starts;
     let mut sizes = a.sizes;
     let mut pointers = a.pointers;
     for turn in 0..turns {
-        let got = allocate_with_token_placed(head, &starts, &sizes, &pointers, size, 8);
+        let n = first_of(numbers, turn);
+        let got = allocate_with_token_placed(head, &starts, &sizes, &pointers, n.size, n.align);
         let answer = got.answer;
         let Given::At(at) = answer else {
             return turn;
         };
         let change = got.change;
         head = make(head, &mut starts, &mut sizes, &mut pointers, change);
-        let after = cancel_ended(head, &starts, &sizes, &pointers, at, got.token);
+        let m = second_of(numbers, turn);
+        let token = Token {
+            count: got.token.count ^ m.nothing,
+            pointer: got.token.pointer ^ m.nothing,
+        };
+        let after = cancel_ended(head, &starts, &sizes, &pointers, at ^ m.nothing, token);
         let done = after.answer;
         let Answer::Done = done else {
             return turn;
@@ -218,15 +246,16 @@ fn cancel_turns(a: Arena, turns: usize, size: usize) -> usize
     turns
 }
 
-fn reset_turns(a: Arena, turns: usize, size: usize) -> usize
-    requires { ⌜ soundOf a ≡ true ⌝ }
+fn reset_turns(a: Arena, numbers: &[usize; 1024], turns: usize) -> usize
+    requires { ⌜ (soundOf a ≡ true) × (turns ≤ 128) ⌝ }
 {
     let mut head = a.head;
     let mut starts = a.starts;
     let mut sizes = a.sizes;
     let mut pointers = a.pointers;
     for turn in 0..turns {
-        let got = allocate_placed(head, &starts, &sizes, &pointers, size, 8);
+        let n = first_of(numbers, turn);
+        let got = allocate_placed(head, &starts, &sizes, &pointers, n.size, n.align);
         let answer = got.answer;
         let Given::At(_) = answer else {
             return turn;
@@ -238,26 +267,36 @@ fn reset_turns(a: Arena, turns: usize, size: usize) -> usize
     turns
 }
 
-// WHAT by its number among the checked turns.
-fn turns_of(what: usize, a: Arena, region: &mut [u8], turns: usize, size: usize) -> usize
-    requires { ⌜ (soundOf a ≡ true) × (length (now region) ≡ a .head .region) × (size < 500000000) ⌝ }
+fn turns_of(
+    what: usize,
+    a: Arena,
+    region: &mut [u8],
+    numbers: &[usize; 1024],
+    turns: usize,
+) -> usize
+    requires { ⌜ (soundOf a ≡ true) × (length (now region) ≡ a .head .region) × (turns ≤ 128) ⌝ }
 {
     match what {
-        1 => allocate_turns(a, turns, size),
-        2 => free_turns(a, turns, size),
-        3 => grow_turns(a, region, turns, size),
-        4 => shrink_turns(a, region, turns, size),
-        5 => token_turns(a, turns, size),
-        6 => cancel_turns(a, turns, size),
-        7 => reset_turns(a, turns, size),
-        8 => resize_turns(a, region, turns, size),
+        1 => allocate_turns(a, numbers, turns),
+        2 => free_turns(a, numbers, turns),
+        3 => grow_turns(a, region, numbers, turns),
+        4 => shrink_turns(a, region, numbers, turns),
+        5 => token_turns(a, numbers, turns),
+        6 => cancel_turns(a, numbers, turns),
+        7 => reset_turns(a, numbers, turns),
         _ => 0,
     }
 }
 
 // The one test of the record and its region.
-pub fn served(what: usize, a: Arena, region: &mut [u8], turns: usize, size: usize) -> usize
-    requires { ⌜ size < 500000000 ⌝ }
+pub fn served(
+    what: usize,
+    a: Arena,
+    region: &mut [u8],
+    numbers: &[usize; 1024],
+    turns: usize,
+) -> usize
+    requires { ⌜ turns ≤ 128 ⌝ }
 {
     if !is_sound(a.head, &a.starts, &a.sizes, &a.pointers) {
         return 0;
@@ -265,5 +304,5 @@ pub fn served(what: usize, a: Arena, region: &mut [u8], turns: usize, size: usiz
     if region.len() != a.head.region {
         return 0;
     }
-    turns_of(what, a, region, turns, size)
+    turns_of(what, a, region, numbers, turns)
 }

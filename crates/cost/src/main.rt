@@ -1,26 +1,20 @@
-// Does one piece of work as often as it is told, for an instruction counter: cost WHAT CHUNKS TURNS SIZE. The difference of two runs that differ in
-// TURNS alone is the cost of the turns between them. Prints how many turns were served.
+// Does one piece of work as often as it is told, for an instruction counter: cost WHAT CHUNKS TURNS SIZE ALIGN NEW. The difference of two runs that differ
+// in TURNS alone is the cost of the turns between them. Prints how many turns were served.
 //
-// A turn hands its record on to the next, so that no turn can be left out, and the size comes from outside, so that no test of it can be. What needs a
-// block is given one in the same turn: its own cost is the turn's less that of the allocate alone. The current chunk has room for 110 turns of 24 bytes.
+// Every number of a turn is read from a list, as a user's would be: nothing is known of it when the program is compiled, and nothing that is worked out
+// of it in one turn serves the next. The current chunk has room for 110 turns that take 48 bytes each.
+ghost use mathlib.Core.Path.{_≡_};
 ghost use Prim.Native.Nat.{_≤_, _<_};
 
 mod inner;
-mod writing;
 
-use arena::Answer;
 use arena::Arena;
 use arena::Head;
 use arena::sound::is_sound;
-use calls::Given;
-use calls::allocate::allocate;
-use calls::free::free;
-use calls::grow::grow;
-use calls::shrink::shrink;
-use calls::tokens::allocate_with_token;
-use calls::tokens::cancel;
 
 const REGION: usize = 8192;
+// As many turns as the list has numbers for.
+const MOST_TURNS: usize = 128;
 
 fn digit(d: u8) -> usize
     ensures { λ r. ⌜ r < 16 ⌝ }
@@ -39,9 +33,7 @@ fn number(text: &[u8]) -> usize
     n
 }
 
-fn argument(i: usize) -> usize
-    ensures { λ r. ⌜ r < 1000000000 ⌝ }
-{
+fn argument(i: usize) -> usize {
     let mut text = [0u8; 16];
     let n = os::arg(i, &mut text);
     number(&text[..n])
@@ -79,9 +71,28 @@ fn holding(chunks: usize) -> Arena
     out
 }
 
+// Number k of a turn: the size and the alignment asked for, those of the block that a second call names, those that it asks for, and two of 0.
+fn number_of_turn(k: usize, size: usize, align: usize, new: usize) -> usize {
+    match k {
+        0 => size,
+        1 => align,
+        2 => size,
+        3 => align,
+        4 => new,
+        5 => align,
+        _ => 0,
+    }
+}
+
+fn list(numbers: &mut [usize; 1024], size: usize, align: usize, new: usize) {
+    for i in 0..1024 {
+        numbers[i] = number_of_turn(i % 8, size, align, new);
+    }
+}
+
 // A pointer moves each turn.
 fn sound_turns(a: Arena, turns: usize) -> usize
-    requires { ⌜ turns < 1000000000 ⌝ }
+    requires { ⌜ turns ≤ 128 ⌝ }
 {
     let mut now = a;
     for turn in 0..turns {
@@ -93,152 +104,13 @@ fn sound_turns(a: Arena, turns: usize) -> usize
     turns
 }
 
-fn allocate_turns(a: Arena, region: &[u8], turns: usize, size: usize) -> usize {
-    let mut now = a;
-    for turn in 0..turns {
-        let got = allocate(now, region, size, 8);
-        let answer = got.answer;
-        let Given::At(_) = answer else {
-            return turn;
-        };
-        now = got.arena;
-    }
-    turns
-}
-
-fn free_turns(a: Arena, region: &[u8], turns: usize, size: usize) -> usize {
-    let mut now = a;
-    for turn in 0..turns {
-        let got = allocate(now, region, size, 8);
-        let answer = got.answer;
-        let Given::At(at) = answer else {
-            return turn;
-        };
-        let after = free(got.arena, at, size, 8);
-        let done = after.answer;
-        let Answer::Done = done else {
-            return turn;
-        };
-        now = after.arena;
-    }
-    turns
-}
-
-fn grow_turns(a: Arena, region: &mut [u8], turns: usize, size: usize) -> usize
-    requires { ⌜ size < 1000000000 ⌝ }
+fn served(what: usize, a: Arena, region: &mut [u8], numbers: &[usize; 1024], turns: usize) -> usize
+    requires { ⌜ turns ≤ 128 ⌝ }
 {
-    let mut now = a;
-    for turn in 0..turns {
-        let got = allocate(now, region, size, 8);
-        let answer = got.answer;
-        let Given::At(at) = answer else {
-            return turn;
-        };
-        let after = grow(got.arena, region, at, size, 8, size + 16, 8);
-        let done = after.answer;
-        let Given::At(_) = done else {
-            return turn;
-        };
-        now = after.arena;
+    if what == 0 {
+        return sound_turns(a, turns);
     }
-    turns
-}
-
-// To half the size, which moves the block.
-fn shrink_turns(a: Arena, region: &mut [u8], turns: usize, size: usize) -> usize
-    requires { ⌜ size < 1000000000 ⌝ }
-{
-    let mut now = a;
-    for turn in 0..turns {
-        let got = allocate(now, region, size + size, 8);
-        let answer = got.answer;
-        let Given::At(at) = answer else {
-            return turn;
-        };
-        let after = shrink(got.arena, region, at, size + size, 8, size, 8);
-        let done = after.answer;
-        let Given::At(_) = done else {
-            return turn;
-        };
-        now = after.arena;
-    }
-    turns
-}
-
-fn token_turns(a: Arena, region: &[u8], turns: usize, size: usize) -> usize {
-    let mut now = a;
-    for turn in 0..turns {
-        let got = allocate_with_token(now, region, size, 8);
-        let answer = got.answer;
-        let Given::At(_) = answer else {
-            return turn;
-        };
-        now = got.arena;
-    }
-    turns
-}
-
-fn cancel_turns(a: Arena, region: &[u8], turns: usize, size: usize) -> usize {
-    let mut now = a;
-    for turn in 0..turns {
-        let got = allocate_with_token(now, region, size, 8);
-        let answer = got.answer;
-        let Given::At(at) = answer else {
-            return turn;
-        };
-        let after = cancel(got.arena, at, got.token);
-        let done = after.answer;
-        let Answer::Done = done else {
-            return turn;
-        };
-        now = after.arena;
-    }
-    turns
-}
-
-// Each turn from the first record, since a reset keeps one chunk. What the last one left is looked at, so that no turn's record can be left out.
-fn reset_turns(a: Arena, region: &[u8], turns: usize, size: usize) -> usize {
-    let mut last = a;
-    for turn in 0..turns {
-        let got = allocate(a, region, size, 8);
-        let answer = got.answer;
-        let Given::At(_) = answer else {
-            return turn;
-        };
-        let after = Arena::reset(got.arena);
-        let done = after.answer;
-        let Answer::Done = done else {
-            return turn;
-        };
-        last = after.arena;
-    }
-    if !is_sound(last.head, &last.starts, &last.sizes, &last.pointers) {
-        return 0;
-    }
-    turns
-}
-
-// WHAT by its number; with 10 added, by the inner forms.
-fn served(what: usize, a: Arena, region: &mut [u8], turns: usize, size: usize) -> usize
-    requires { ⌜ (turns < 1000000000) × (size < 500000000) ⌝ }
-{
-    if 20 <= what {
-        return writing::served(what - 20, a, region, turns, size);
-    }
-    if 10 <= what {
-        return inner::served(what - 10, a, region, turns, size);
-    }
-    match what {
-        0 => sound_turns(a, turns),
-        1 => allocate_turns(a, region, turns, size),
-        2 => free_turns(a, region, turns, size),
-        3 => grow_turns(a, region, turns, size),
-        4 => shrink_turns(a, region, turns, size),
-        5 => token_turns(a, region, turns, size),
-        6 => cancel_turns(a, region, turns, size),
-        7 => reset_turns(a, region, turns, size),
-        _ => 0,
-    }
+    inner::served(what, a, region, numbers, turns)
 }
 
 fn main() {
@@ -246,14 +118,18 @@ fn main() {
     let chunks = argument(2);
     let turns = argument(3);
     let size = argument(4);
+    let align = argument(5);
+    let new = argument(6);
     if 32 < chunks {
         return;
     }
-    if 500000000 <= size {
+    if MOST_TURNS < turns {
         return;
     }
     let mut region = [0u8; REGION];
-    let found = served(what, holding(chunks), &mut region, turns, size);
+    let mut numbers = [0; 1024];
+    list(&mut numbers, size, align, new);
+    let found = served(what, holding(chunks), &mut region, &numbers, turns);
     io::print_decimal(libc::STDOUT_FILENO, found as u64);
     io::write_all(libc::STDOUT_FILENO, b"\n");
 }

@@ -110,7 +110,7 @@ pub fn grow(
     let a = s.arena;
     let mut b = [46u8; 16384];
     let n = put_bytes(&mut b, &s.bytes, s.lent);
-    let got = calls::grow::grow(a, &mut b[..n], offset, old, old_align, new, new_align);
+    let got = reshape::grow::grow(a, &mut b[..n], offset, old, old_align, new, new_align);
     given(s, got, b)
 }
 
@@ -127,7 +127,7 @@ pub fn grow_zeroed(
     let a = s.arena;
     let mut b = [46u8; 16384];
     let n = put_bytes(&mut b, &s.bytes, s.lent);
-    let got = calls::grow::grow_zeroed(a, &mut b[..n], offset, old, old_align, new, new_align);
+    let got = reshape::grow::grow_zeroed(a, &mut b[..n], offset, old, old_align, new, new_align);
     given(s, got, b)
 }
 
@@ -144,7 +144,7 @@ pub fn shrink(
     let a = s.arena;
     let mut b = [46u8; 16384];
     let n = put_bytes(&mut b, &s.bytes, s.lent);
-    let got = calls::shrink::shrink(a, &mut b[..n], offset, old, old_align, new, new_align);
+    let got = reshape::shrink::shrink(a, &mut b[..n], offset, old, old_align, new, new_align);
     given(s, got, b)
 }
 
@@ -156,7 +156,7 @@ pub fn resize(s: Store, offset: usize, old: usize, align: usize, new: usize) -> 
     let a = s.arena;
     let mut b = [46u8; 16384];
     let n = put_bytes(&mut b, &s.bytes, s.lent);
-    let got = calls::resize::resize(a, &mut b[..n], offset, old, align, new);
+    let got = reshape::resize::resize(a, &mut b[..n], offset, old, align, new);
     given(s, got, b)
 }
 
@@ -203,7 +203,7 @@ pub fn allocate_with_token(s: Store, size: usize, align: usize) -> Store {
     let a = s.arena;
     let mut b = [46u8; 16384];
     let n = put_bytes(&mut b, &s.bytes, s.lent);
-    let got = calls::tokens::allocate_with_token(a, &b[..n], size, align);
+    let got = takeback::tokens::allocate_with_token(a, &b[..n], size, align);
     let token = got.token;
     number(b" gives token ", token.count);
     number(b" ", token.pointer);
@@ -228,7 +228,7 @@ pub fn cancel(s: Store, offset: usize, count: usize, pointer: usize) -> Store {
         count: count,
         pointer: pointer,
     };
-    done(s, calls::tokens::cancel(a, offset, token))
+    done(s, takeback::tokens::cancel(a, offset, token))
 }
 
 pub fn reset(s: Store) -> Store {

@@ -1,7 +1,7 @@
 // The answers of the calls by value as plain numbers, with the record beside them.
 ghost use mathlib.Core.Path.{_≡_};
 ghost use Rattle.arena.specs.Refusals.{numberOf};
-ghost use Rattle.host.specs.Said.{saidOf, saidGiven, storedOf, storedGiven, storedToken};
+ghost use Rattle.host.specs.Said.{said, saidOf, saidGiven, storedOf, storedGiven, storedToken};
 use crate::Said;
 use crate::SaidToken;
 use crate::Stored;
@@ -28,7 +28,16 @@ pub fn number_of(r: Refusal) -> usize
     }
 }
 
-fn said_plain(answer: Answer) -> Said
+pub fn said_refused(r: Refusal) -> Said
+    ensures { λ out. ⌜ out ≡ said (numberOf r) 0 ⌝ }
+{
+    Said {
+        refusal: number_of(r),
+        offset: 0,
+    }
+}
+
+pub fn said_plain(answer: Answer) -> Said
     ensures { λ r. ⌜ r ≡ saidOf answer ⌝ }
 {
     match answer {
@@ -36,14 +45,11 @@ fn said_plain(answer: Answer) -> Said
             refusal: 0,
             offset: 0,
         },
-        Answer::Refused(r) => Said {
-            refusal: number_of(r),
-            offset: 0,
-        },
+        Answer::Refused(r) => said_refused(r),
     }
 }
 
-fn said_given(answer: Given) -> Said
+pub fn said_given(answer: Given) -> Said
     ensures { λ r. ⌜ r ≡ saidGiven answer ⌝ }
 {
     match answer {
@@ -51,10 +57,7 @@ fn said_given(answer: Given) -> Said
             refusal: 0,
             offset: offset,
         },
-        Given::Refused(r) => Said {
-            refusal: number_of(r),
-            offset: 0,
-        },
+        Given::Refused(r) => said_refused(r),
     }
 }
 

@@ -20,7 +20,7 @@ fn grow_by_value(
     ensures { λ r. ⌜ r ≡ storedGiven (growOf a (length (now (region .entry))) offset old «old_align» new «new_align») ⌝ }
     ensures { λ r. ⌜ now (region .exit) ≡ growBytes a (now (region .entry)) offset old «old_align» new «new_align» ⌝ }
 {
-    stored_given(calls::grow::grow(a, region, offset, old, old_align, new, new_align))
+    stored_given(reshape::grow::grow(a, region, offset, old, old_align, new, new_align))
 }
 
 #[no_mangle]
@@ -54,7 +54,7 @@ fn grow_zeroed_by_value(
     ensures { λ r. ⌜ r ≡ storedGiven (growOf a (length (now (region .entry))) offset old «old_align» new «new_align») ⌝ }
     ensures { λ r. ⌜ now (region .exit) ≡ growZeroedBytes a (now (region .entry)) offset old «old_align» new «new_align» ⌝ }
 {
-    stored_given(calls::grow::grow_zeroed(a, region, offset, old, old_align, new, new_align))
+    stored_given(reshape::grow::grow_zeroed(a, region, offset, old, old_align, new, new_align))
 }
 
 #[no_mangle]

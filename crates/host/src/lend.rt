@@ -9,7 +9,7 @@ use arena::Answer;
 use arena::Arena;
 use calls::lend::lend_answer;
 
-fn part_of(answer: Answer, offset: usize, size: usize) -> SaidPart
+pub fn part_of(answer: Answer, offset: usize, size: usize) -> SaidPart
     ensures { λ r. ⌜ r ≡ saidPart answer offset size ⌝ }
 {
     match answer {

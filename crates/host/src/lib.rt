@@ -1,6 +1,6 @@
 // The calls for C and Rust: the arena's record is lent and changed in place, and what a call answers is plain numbers.
 pub mod allocate;
-mod answers;
+pub mod answers;
 pub mod create;
 pub mod free;
 pub mod grow;

@@ -19,7 +19,7 @@ fn resize_by_value(
     ensures { λ r. ⌜ r ≡ storedGiven (resizeOf a (length (now (region .entry))) offset old align new) ⌝ }
     ensures { λ r. ⌜ now (region .exit) ≡ resizeBytes a (now (region .entry)) offset old align new ⌝ }
 {
-    stored_given(calls::resize::resize(a, region, offset, old, align, new))
+    stored_given(reshape::resize::resize(a, region, offset, old, align, new))
 }
 
 #[no_mangle]

@@ -20,7 +20,7 @@ fn shrink_by_value(
     ensures { λ r. ⌜ r ≡ storedGiven (shrinkOf a (length (now (region .entry))) offset old «old_align» new «new_align») ⌝ }
     ensures { λ r. ⌜ now (region .exit) ≡ shrinkBytes a (now (region .entry)) offset old «old_align» new «new_align» ⌝ }
 {
-    stored_given(calls::shrink::shrink(a, region, offset, old, old_align, new, new_align))
+    stored_given(reshape::shrink::shrink(a, region, offset, old, old_align, new, new_align))
 }
 
 #[no_mangle]

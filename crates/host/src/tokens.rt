@@ -15,7 +15,7 @@ use calls::Token;
 fn allocate_with_token_by_value(a: Arena, region: &[u8], size: usize, align: usize) -> StoredToken
     ensures { λ r. ⌜ r ≡ storedToken (withTokenOf a (length (now (region .entry))) size align) ⌝ }
 {
-    stored_token(calls::tokens::allocate_with_token(a, region, size, align))
+    stored_token(takeback::tokens::allocate_with_token(a, region, size, align))
 }
 
 #[no_mangle]
@@ -40,7 +40,7 @@ fn cancel_by_value(a: Arena, offset: usize, count: usize, pointer: usize) -> Sto
         count: count,
         pointer: pointer,
     };
-    stored(calls::tokens::cancel(a, offset, token))
+    stored(takeback::tokens::cancel(a, offset, token))
 }
 
 #[no_mangle]

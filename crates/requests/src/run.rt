@@ -19,11 +19,11 @@ use calls::Token;
 use calls::TokenPlaced;
 use calls::allocate::allocate_placed;
 use calls::free::free_ended;
-use calls::grow::grow_placed;
-use calls::resize::resize_placed;
-use calls::shrink::shrink_placed;
-use calls::tokens::allocate_with_token_placed;
-use calls::tokens::cancel_ended;
+use reshape::grow::grow_placed;
+use reshape::resize::resize_placed;
+use reshape::shrink::shrink_placed;
+use takeback::tokens::allocate_with_token_placed;
+use takeback::tokens::cancel_ended;
 
 // The reply to a request, and what it changes in the record.
 pub struct Ran {

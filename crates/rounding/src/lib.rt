@@ -1,6 +1,7 @@
 // Rounding and powers of two, for every layer above. Where document 01 says "rounded up to" or "rounded down to", one of these is meant.
 ghost use mathlib.Core.Path.{_≡_};
-ghost use Prim.Native.Nat.{_+_, _^_, _≤_, _<_};
+ghost use mathlib.Core.Bool.{true};
+ghost use Prim.Native.Nat.{_+_, _%_, _^_, _≤_, _<_};
 ghost use Rattle.rounding.specs.Round.{roundDown, roundUp, multiple, oneBit, nextPower};
 
 pub fn round_down_to(n: usize, divisor: usize) -> usize
@@ -22,6 +23,35 @@ pub fn is_multiple(n: usize, divisor: usize) -> bool
     ensures { λ r. ⌜ r ≡ multiple divisor n ⌝ }
 {
     n % divisor == 0
+}
+
+// The same by a power of two, where the remainder is a mask and costs no division.
+fn remainder_by_power(n: usize, power: usize) -> usize
+    requires { ⌜ oneBit power ≡ true ⌝ }
+    ensures { λ r. ⌜ r ≡ n % power ⌝ }
+{
+    n & (power - 1)
+}
+
+pub fn down_to_power(n: usize, power: usize) -> usize
+    requires { ⌜ oneBit power ≡ true ⌝ }
+    ensures { λ r. ⌜ r ≡ roundDown n power ⌝ }
+{
+    n - remainder_by_power(n, power)
+}
+
+pub fn up_to_power(n: usize, power: usize) -> usize
+    requires { ⌜ (oneBit power ≡ true) × (n + power ≤ 2 ^ 64) ⌝ }
+    ensures { λ r. ⌜ r ≡ roundUp n power ⌝ }
+{
+    down_to_power(n + (power - 1), power)
+}
+
+pub fn is_multiple_of_power(n: usize, power: usize) -> bool
+    requires { ⌜ oneBit power ≡ true ⌝ }
+    ensures { λ r. ⌜ r ≡ multiple power n ⌝ }
+{
+    remainder_by_power(n, power) == 0
 }
 
 // Exactly one bit set: a power of two.

@@ -1,6 +1,6 @@
 -- `arena::sound::is_chunk_sound` meets its contract: a chunk that fails a test of the code lacks a fact of a sound chunk, and one that passes them all has each.
 -- Assumes nothing.
-use Prim.Native.Nat.{ℕ, _-_}
+use Prim.Native.Nat.{ℕ, _-_, _≤_}
 use native.Mathlib.Omega.{arith}
 use mathlib.Core.Bool.{true, false}
 use mathlib.Core.Path.{_≡_, sym, ap}
@@ -13,7 +13,7 @@ use Rattle.rounding.proofs.Powers.{Power, one-bit-power, power-positive}
 use Rattle.rounding.proofs.Rounding.{dvd-multiple}
 use Rattle.rounding.proofs.Tests.{refute, true-false}
 use Rattle.arena.specs.declared.Chunk.{Chunk}
-use Rattle.arena.specs.Numbers.{step}
+use Rattle.arena.specs.Numbers.{step, footer}
 use Rattle.arena.specs.Record.{endOf, pastOf}
 use Rattle.arena.specs.Sound.{chunkSound}
 use Rattle.rounding.proofs.Tests.{taken-false, left-true}
@@ -71,16 +71,28 @@ sub-result c =
     let start = c .before .before .before .before .before .before .before .before .before .before .before .before .before .before .before in
     power-positive (one-bit-power (start .args .minimum) (start .pre))
 
+-- Over the chunk alone, since `omega` would read every place on the way to the end.
+inside-region : (region : ℕ) (d : Chunk) → footer ≤ region → d .size ≤ region - footer → d .start ≤ region - footer - d .size → pastOf d ≤ region
+inside-region region d r s t = omega arith
+
 returns-8 : tie.Need-returns-8
 unfolding chunkSound
 returns-8 c =
-    let whole = c .before .before .before .before .before .before .before .before .before .before .before in
-    let start = whole .before .before .before .before .before in
+    let below = c .before in
+    let above = below .before .before .before in
+    let starts = above .before .before in
+    let sized = starts .before .before .before in
+    let whole = sized .before .before in
+    let room = whole .before .before .before .before in
+    let start = room .before in
     let a = start .args in
-    let inside = le-leb (pastOf (a .c)) (a .region) (omega arith) in
-    let above = le-leb (a .c .start) (a .c .pointer) (omega arith) in
-    let below = le-leb (a .c .pointer) (endOf (a .c)) (omega arith) in
-    rw (start-multiple (whole .before .before), size-multiple whole, inside, above, below)
+    rw (
+      start-multiple (whole .before .before),
+      size-multiple whole,
+      le-leb (pastOf (a .c)) (a .region) (inside-region (a .region) (a .c) (room .if1 .left) (sized .if4 .left) (starts .if5 .left)),
+      le-leb (a .c .start) (a .c .pointer) (above .if6 .left),
+      le-leb (a .c .pointer) (endOf (a .c)) (below .if7 .left),
+    )
     (masked (a .c .pointer) (one-bit-power (a .minimum) (start .pre)))
 
 pub is-chunk-sound-spec : {M : Type 1} → statement M

@@ -17,39 +17,47 @@ is-sound-requires c κs = search needs
 refused-requires : tie.Need-refused-requires
 refused-requires c κs = search needs
 
+-- where the function begins, from the answer of the test
+abbrev start : tie.After-is-sound → tie.Start
+start t = t .before .before .before .before .before .before .before .before .before
+
 returns : tie.Need-returns
 returns c =
     let t = c .before .before in
-    let s = t .before .before .before .before .before .before .before in
+    let s = start t in
     c .refused .ensures
-    ∙ sym (allocate-state (s .args .t1) _ (s .args .size) (s .args .align) (taken-false (t .is-sound .ensures) (c .before .if1 .taken)))
+    ∙ sym (allocate-state (s .args .a) _ (s .args .size) (s .args .align) (taken-false (t .is-sound .ensures) (c .before .if1 .taken)))
 
 refused-requires-2 : tie.Need-refused-requires-2
 refused-requires-2 c κs = search needs
 
 returns-2 : tie.Need-returns-2
 returns-2 c =
-    let t = c .before .before .before in
-    let s = t .before .before .before .before .before .before .before in
+    let e = c .before .before .before in
+    let t = e .before in
+    let s = start t in
     c .refused2 .ensures
     ∙ sym
-    (allocate-region (s .args .t1) _ (s .args .size) (s .args .align) (left-true (t .is-sound .ensures) (c .before .before .if1 .left))
-    (c .before .if2 .taken))
+    (allocate-region (s .args .a) _ (s .args .size) (s .args .align) (left-true (t .is-sound .ensures) (e .if1 .left)) (c .before .if2 .taken))
 
 -- past the tests the record is sound
-sound : (c : tie.Else2) → soundOf (c .before .before .before .before .before .before .before .before .before .args .t1) ≡ true
-sound c = left-true (c .before .before .is-sound .ensures) (c .before .if1 .left)
+sound : (c : tie.Else2) → soundOf (start (c .before .before .before) .args .a) ≡ true
+sound c = left-true (c .before .before .before .is-sound .ensures) (c .before .before .if1 .left)
 
 allocate-placed-requires : tie.Need-allocate-placed-requires
-allocate-placed-requires c κs = sound (c .before .before .before .before .before)
+allocate-placed-requires c κs = sound (c .before .before .before)
 
-settled-requires : tie.Need-settled-requires
-settled-requires c κs = sound (c .before .before .before .before .before .before)
+make-requires : tie.Need-make-requires
+make-requires c κs = sound (c .before .before .before .before .before .before .before)
 
 returns-3 : tie.Need-returns-3
 returns-3 c =
-    let s = c .before .before .before .before .before .before .before .before .before .before .before .before .before .before .before .before in
-    c .settled .ensures ∙ c .before .allocate-placed .ensures ∙ sym (ap (λ (lent : ℕ). allocateOf (s .args .t1) lent (s .args .size) (s .args .align)) (c .before .before .before .before .before .before .before .if2 .left))
+    let p = c .before .before .before .before in
+    let e = p .before .before .before .before in
+    let s = start (e .before .before .before) in
+    (λ i. record { answer = p .allocate-placed .result .answer; arena = c .make .ensures i })
+    ∙ p .allocate-placed .ensures
+    ∙ sym (ap (λ (lent : ℕ). allocateOf (s .args .a) lent (s .args .size) (s .args .align)) (e .if2 .left))
 
 pub allocate-spec : {M : Type 1} → statement M
 allocate-spec =
@@ -61,5 +69,5 @@ allocate-spec =
     refused-requires-2
     returns-2
     allocate-placed-requires
-    settled-requires
+    make-requires
     returns-3)

@@ -22,12 +22,12 @@ Inv-loop starts sizes pointers offset size align left₀ left =
 abbrev μ-loop : tie.MeasureT-loop
 μ-loop starts sizes pointers offset size align left₀ left = left
 
-is-multiple-requires : tie.Need-is-multiple-requires Inv-loop μ-loop
-is-multiple-requires c κs = c .pre .1
+is-multiple-of-power-requires : tie.Need-is-multiple-of-power-requires Inv-loop μ-loop
+is-multiple-of-power-requires c κs = c .pre .1
 
 returns : tie.Need-returns Inv-loop μ-loop
 unfolding acceptable
-returns c = rw (taken-false (c .before .is-multiple .ensures) (c .if1 .taken))
+returns c = rw (taken-false (c .before .is-multiple-of-power .ensures) (c .if1 .taken))
 
 loop-holds : tie.Need-loop-holds Inv-loop μ-loop
 loop-holds c = (omega arith, refl)
@@ -65,7 +65,7 @@ asked : (c : tie.Else1 Inv-loop μ-loop) →
     let cs = chunksOf (now (a .starts)) (now (a .sizes)) (now (a .pointers)) (a .h .count) in
     acceptable cs (a .offset) (a .size) (a .align) ≡ any (hasBlock (a .offset) (a .size)) cs
 unfolding acceptable
-asked c = rw (left-true (c .before .is-multiple .ensures) (c .if1 .left))
+asked c = rw (left-true (c .before .is-multiple-of-power .ensures) (c .if1 .left))
 
 returns-2 : tie.Need-returns-2 Inv-loop μ-loop
 returns-2 c =
@@ -110,7 +110,7 @@ is-acceptable-spec =
     (tie.spec
     Inv-loop
     μ-loop
-    is-multiple-requires
+    is-multiple-of-power-requires
     returns
     loop-holds
     sub-left

@@ -7,7 +7,7 @@ use mathlib.Core.Bool.{true, false}
 use mathlib.Core.List.{List, [], _∷_}
 use mathlib.Core.Path.{_≡_, refl, sym, _∙_, ap}
 use Rattle.rounding.specs.Round.{roundUp}
-use Rattle.rounding.proofs.Powers.{power-positive}
+use Rattle.rounding.proofs.Powers.{power-one-bit}
 use Rattle.rounding.proofs.Tests.{taken-false, left-true}
 use Rattle.arena.specs.declared.Chunk.{Chunk}
 use Rattle.arena.specs.Record.{recordOf, heldOf, holding}
@@ -50,14 +50,14 @@ returns c =
     (ap (holding (a .head)) (freed-elsewhere (a .head .minimum) (heldOf a) (s .args .offset) (s .args .size) elsewhere)
     ∙ holding-held (sound-open a (s .pre .0)))
 
-add-round-up-to : tie.Need-add-round-up-to
-add-round-up-to c = omega (arith, c .before .before .pre .1, sound-open _ (c .before .before .pre .0) .head .region-bound)
+add-up-to-power : tie.Need-add-up-to-power
+add-up-to-power c = omega (arith, c .before .before .pre .1, sound-open _ (c .before .before .pre .0) .head .region-bound)
 
-round-up-to-requires : tie.Need-round-up-to-requires
-round-up-to-requires c κs =
+up-to-power-requires : tie.Need-up-to-power-requires
+up-to-power-requires c κs =
     let s = c .before .before in
     let head = sound-open _ (s .pre .0) .head in
-    (power-positive (head .minimum-power), omega (arith, s .pre .1, head .region-bound, head .minimum-bound))
+    (power-one-bit (head .minimum-power), omega (arith, s .pre .1, head .region-bound, head .minimum-bound))
 
 returns-2 : tie.Need-returns-2
 unfolding changedBy
@@ -65,10 +65,10 @@ returns-2 c =
     let s = c .before .before .before in
     let a = recordOf (s .args .h) (now (s .args .starts)) (now (s .args .sizes)) (now (s .args .pointers)) in
     let there = left-true (c .before .before .is-at-pointer .ensures) (c .before .if1 .left) in
-    ap (λ (p : ℕ). holding (a .head) (movedTo (heldOf a) p)) (c .round-up-to .ensures)
+    ap (λ (p : ℕ). holding (a .head) (movedTo (heldOf a) p)) (c .up-to-power .ensures)
     ∙ sym (ap (holding (a .head)) (freed-there (a .head .minimum) (heldOf a) (s .args .offset) (s .args .size) there))
 
 pub free-tested-spec : {M : Type 1} → statement M
 free-tested-spec =
     tie.close
-    (tie.spec is-at-pointer-requires returns add-round-up-to round-up-to-requires returns-2)
+    (tie.spec is-at-pointer-requires returns add-up-to-power up-to-power-requires returns-2)

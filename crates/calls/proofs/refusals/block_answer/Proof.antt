@@ -5,7 +5,7 @@ use mathlib.Core.Path.{_≡_, sym, _∙_, ap}
 use borrow.Author.Needs.{needs}
 use denote.Ref.{now}
 use borrow.Author.Tests.{lt-ltb, le-ltb}
-use Rattle.rounding.proofs.Powers.{power-positive}
+use Rattle.rounding.proofs.Powers.{power-one-bit}
 use Rattle.rounding.proofs.Tests.{taken-false, left-true, true-not, false-not}
 use Rattle.arena.specs.Numbers.{most}
 use Rattle.arena.specs.Record.{chunksOf, recordOf}
@@ -42,7 +42,7 @@ allowed c = left-true (c .before .is-allowed-align .ensures) (c .if2 .left)
 
 is-acceptable-requires : tie.Need-is-acceptable-requires
 is-acceptable-requires c κs =
-    (sound-ready (sound-open _ (c .before .before .before .pre)), power-positive (align-open _ (allowed c) .power))
+    (sound-ready (sound-open _ (c .before .before .before .pre)), power-one-bit (align-open _ (allowed c) .power))
 
 returns-3 : tie.Need-returns-3
 unfolding lendAnswer

@@ -9,7 +9,7 @@ use lib.Dec.{ltb}
 use borrow.Author.Needs.{needs}
 use denote.Ref.{now}
 use borrow.Author.Tests.{lt-ltb, le-ltb}
-use Rattle.rounding.proofs.Powers.{power-positive}
+use Rattle.rounding.proofs.Powers.{power-one-bit}
 use Rattle.rounding.proofs.Tests.{taken-false, left-true, true-not, false-not, or-left, or-right, or-neither}
 use Rattle.arena.specs.declared.Arena.{Arena}
 use Rattle.arena.specs.declared.Refusal.the-variants.{Size, Align, Block, Direction}
@@ -116,7 +116,7 @@ past c =
 
 is-acceptable-requires : tie.Need-is-acceptable-requires
 is-acceptable-requires c κs =
-    (sound-ready (sound-open _ (c .before .before .before .before .before .before .pre)), power-positive (align-open _ (old-allowed c) .power))
+    (sound-ready (sound-open _ (c .before .before .before .before .before .before .pre)), power-one-bit (align-open _ (old-allowed c) .power))
 
 returns-5 : tie.Need-returns-5
 unfolding lendAnswer

@@ -11,13 +11,18 @@ use Rattle.cost.proofs.inner.allocate_turns.Statement.{statement}
 use Rattle.cost.proofs.inner.allocate_turns.Tie as tie
 
 abbrev Inv-loop : tie.InvT-loop
-Inv-loop turns size head₀ starts₀ sizes₀ pointers₀ turn₀ head starts sizes pointers turn = (turn ≤ turns) × (soundOf (recordOf head starts sizes pointers) ≡ true)
+Inv-loop numbers turns head₀ starts₀ sizes₀ pointers₀ turn₀ head starts sizes pointers turn =
+    (turn ≤ turns) × (turns ≤ 128) × (soundOf (recordOf head starts sizes pointers) ≡ true)
 
 abbrev μ-loop : tie.MeasureT-loop
-μ-loop turns size head₀ starts₀ sizes₀ pointers₀ turn₀ head starts sizes pointers turn = turns - turn
+μ-loop numbers turns head₀ starts₀ sizes₀ pointers₀ turn₀ head starts sizes pointers turn =
+    turns - turn
 
 loop-holds : tie.Need-loop-holds Inv-loop μ-loop
 loop-holds c = search needs
+
+first-of-requires : tie.Need-first-of-requires Inv-loop μ-loop
+first-of-requires c κs = omega arith
 
 allocate-placed-requires : tie.Need-allocate-placed-requires Inv-loop μ-loop
 allocate-placed-requires c κs = search needs
@@ -42,11 +47,12 @@ loop-less c = omega arith
 
 loop-again : tie.Need-loop-again Inv-loop μ-loop
 loop-again c =
-    let l = c .before .before .before .before .before .before .before .before .before .before .before .loop in (
-      omega arith,
+    let l = c .before .before .before .before .before .before .before .before .before .before .before .before in (
+      omega (arith, c .before .before .before .before .before .before .before .before .before .before .before .loop-test .taken),
+      l .loop .inv .1,
       ap soundOf (c .make .ensures)
           ∙ ap (λ o. soundOf (o .arena)) (c .before .before .before .before .before .before .allocate-placed .ensures)
-          ∙ allocate-sound (recordOf (l .head) (l .starts) (l .sizes) (l .pointers)) (l .inv .1) _ _ _,
+          ∙ allocate-sound (recordOf (l .loop .head) (l .loop .starts) (l .loop .sizes) (l .loop .pointers)) (l .loop .inv .2) _ _ _,
     )
 
 returns-2 : tie.Need-returns-2 Inv-loop μ-loop
@@ -59,6 +65,7 @@ allocate-turns-spec =
     Inv-loop
     μ-loop
     loop-holds
+    first-of-requires
     allocate-placed-requires
     enum-told
     enum-told-2

@@ -1,5 +1,4 @@
--- `cost::inner::cancel_turns` meets its contract: it is safe, and no more turns are taken than were asked for. The record stays sound.
--- Assumes nothing.
+-- `cost::inner::cancel_turns` meets its contract: it is safe, and no more turns are taken than were asked for. The record stays sound. Assumes nothing.
 use Prim.Native.Nat.{_≤_, _-_}
 use native.Mathlib.Omega.{arith}
 use mathlib.Core.Bool.{true}
@@ -13,11 +12,11 @@ use Rattle.cost.proofs.inner.cancel_turns.Statement.{statement}
 use Rattle.cost.proofs.inner.cancel_turns.Tie as tie
 
 abbrev Inv-loop : tie.InvT-loop
-Inv-loop turns size head₀ starts₀ sizes₀ pointers₀ turn₀ head starts sizes pointers turn =
-    (turn ≤ turns) × (soundOf (recordOf head starts sizes pointers) ≡ true)
+Inv-loop numbers turns head₀ starts₀ sizes₀ pointers₀ turn₀ head starts sizes pointers turn =
+    (turn ≤ turns) × (turns ≤ 128) × (soundOf (recordOf head starts sizes pointers) ≡ true)
 
 abbrev μ-loop : tie.MeasureT-loop
-μ-loop turns size head₀ starts₀ sizes₀ pointers₀ turn₀ head starts sizes pointers turn =
+μ-loop numbers turns head₀ starts₀ sizes₀ pointers₀ turn₀ head starts sizes pointers turn =
     turns - turn
 
 -- the record at the loop's head, and what the first call leaves
@@ -29,11 +28,14 @@ made c = recordOf (c .make .result) (c .make .last .1 .0) (c .make .last .1 .1 .
 
 held : (c : tie.After-make Inv-loop μ-loop) → soundOf (made c) ≡ true
 held c =
-    let l = c .before .before .before .before .before .before .before .before .before .before .before .before in
-    ap soundOf (c .make .ensures) ∙ ap (λ o. soundOf (o .arena)) (c .before .before .before .before .before .before .before .allocate-with-token-placed .ensures) ∙ with-token-sound (own l) (l .loop .inv .1) _ _ _
+    let l = c .before .before .before .before .before .before .before .before .before .before .before .before .before in
+    ap soundOf (c .make .ensures) ∙ ap (λ o. soundOf (o .arena)) (c .before .before .before .before .before .before .before .allocate-with-token-placed .ensures) ∙ with-token-sound (own l) (l .loop .inv .2) _ _ _
 
 loop-holds : tie.Need-loop-holds Inv-loop μ-loop
 loop-holds c = search needs
+
+first-of-requires : tie.Need-first-of-requires Inv-loop μ-loop
+first-of-requires c κs = omega arith
 
 allocate-with-token-placed-requires : tie.Need-allocate-with-token-placed-requires Inv-loop μ-loop
 allocate-with-token-placed-requires c κs = search needs
@@ -50,8 +52,11 @@ returns c = search needs
 make-requires : tie.Need-make-requires Inv-loop μ-loop
 make-requires c κs = search needs
 
+second-of-requires : tie.Need-second-of-requires Inv-loop μ-loop
+second-of-requires c κs = omega (arith, c .before .before .before .before .before .before .before .before .before .before .before .before .loop-test .taken, c .before .before .before .before .before .before .before .before .before .before .before .before .before .loop .inv .1)
+
 cancel-ended-requires : tie.Need-cancel-ended-requires Inv-loop μ-loop
-cancel-ended-requires c κs = held (c .before .before .before)
+cancel-ended-requires c κs = held (c .before .before .before .before .before .before .before .before .before)
 
 enum-told-2 : tie.Need-enum-told-2 Inv-loop μ-loop
 enum-told-2 c = search needs
@@ -63,18 +68,19 @@ returns-2 : tie.Need-returns-2 Inv-loop μ-loop
 returns-2 c = search needs
 
 make-requires-2 : tie.Need-make-requires-2 Inv-loop μ-loop
-make-requires-2 c κs = held (c .before .before .before .before .before .before .before .before .before)
+make-requires-2 c κs = held (c .before .before .before .before .before .before .before .before .before .before .before .before .before .before .before)
 
 add-turn : tie.Need-add-turn Inv-loop μ-loop
-add-turn c = omega (arith, c .before .before .before .before .before .before .before .before .before .before .before .before .before .before .before .before .before .before .before .before .before .loop-test .taken, c .before .before .before .before .before .before .before .before .before .before .before .before .before .before .before .before .before .before .before .before .before .before .before .before .before .before .before .fits)
+add-turn c = omega (arith, c .before .before .before .before .before .before .before .before .before .before .before .before .before .before .before .before .before .before .before .before .before .before .before .before .before .before .before .before .loop-test .taken, c .before .before .before .before .before .before .before .before .before .before .before .before .before .before .before .before .before .before .before .before .before .before .before .before .before .before .before .before .before .loop .inv .1)
 
 loop-less : tie.Need-loop-less Inv-loop μ-loop
-loop-less c = omega (arith, c .before .before .before .before .before .before .before .before .before .before .before .before .before .before .before .before .before .before .before .before .before .loop-test .taken)
+loop-less c = omega (arith, c .before .before .before .before .before .before .before .before .before .before .before .before .before .before .before .before .before .before .before .before .before .before .before .before .before .before .before .before .loop-test .taken, c .before .before .before .before .before .before .before .before .before .before .before .before .before .before .before .before .before .before .before .before .before .before .before .before .before .before .before .before .before .loop .inv .1)
 
 loop-again : tie.Need-loop-again Inv-loop μ-loop
 loop-again c =
-    let m = c .before .before .before .before .before .before .before .before .before .before in (
-      omega (arith, c .before .before .before .before .before .before .before .before .before .before .before .before .before .before .before .before .before .before .before .before .before .loop-test .taken),
+    let m = c .before .before .before .before .before .before .before .before .before .before .before .before .before .before .before .before in (
+      omega (arith, c .before .before .before .before .before .before .before .before .before .before .before .before .before .before .before .before .before .before .before .before .before .before .before .before .before .before .before .before .loop-test .taken, c .before .before .before .before .before .before .before .before .before .before .before .before .before .before .before .before .before .before .before .before .before .before .before .before .before .before .before .before .before .loop .inv .1),
+      c .before .before .before .before .before .before .before .before .before .before .before .before .before .before .before .before .before .before .before .before .before .before .before .before .before .before .before .before .before .loop .inv .1,
       ap soundOf (c .make2 .ensures) ∙ ap (λ o. soundOf (o .arena)) (c .before .before .before .before .before .before .cancel-ended .ensures) ∙ cancel-sound (made m) (held m) _ _,
     )
 
@@ -88,11 +94,13 @@ cancel-turns-spec =
     Inv-loop
     μ-loop
     loop-holds
+    first-of-requires
     allocate-with-token-placed-requires
     enum-known-answer
     enum-told
     returns
     make-requires
+    second-of-requires
     cancel-ended-requires
     enum-told-2
     enum-told-3

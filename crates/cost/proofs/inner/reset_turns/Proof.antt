@@ -1,5 +1,4 @@
--- `cost::inner::reset_turns` meets its contract: it is safe, and no more turns are taken than were asked for. The record stays sound.
--- Assumes nothing.
+-- `cost::inner::reset_turns` meets its contract: it is safe, and no more turns are taken than were asked for. The record stays sound. Assumes nothing.
 use Prim.Native.Nat.{_≤_, _-_}
 use native.Mathlib.Omega.{arith}
 use mathlib.Core.Bool.{true}
@@ -18,11 +17,11 @@ use Rattle.cost.proofs.inner.reset_turns.Statement.{statement}
 use Rattle.cost.proofs.inner.reset_turns.Tie as tie
 
 abbrev Inv-loop : tie.InvT-loop
-Inv-loop turns size head₀ starts₀ sizes₀ pointers₀ turn₀ head starts sizes pointers turn =
-    (turn ≤ turns) × (soundOf (recordOf head starts sizes pointers) ≡ true)
+Inv-loop numbers turns head₀ starts₀ sizes₀ pointers₀ turn₀ head starts sizes pointers turn =
+    (turn ≤ turns) × (turns ≤ 128) × (soundOf (recordOf head starts sizes pointers) ≡ true)
 
 abbrev μ-loop : tie.MeasureT-loop
-μ-loop turns size head₀ starts₀ sizes₀ pointers₀ turn₀ head starts sizes pointers turn =
+μ-loop numbers turns head₀ starts₀ sizes₀ pointers₀ turn₀ head starts sizes pointers turn =
     turns - turn
 
 -- the record at the loop's head, and what the first call leaves
@@ -34,8 +33,8 @@ made c = recordOf (c .make .result) (c .make .last .1 .0) (c .make .last .1 .1 .
 
 held : (c : tie.After-make Inv-loop μ-loop) → soundOf (made c) ≡ true
 held c =
-    let l = c .before .before .before .before .before .before .before .before .before .before .before in
-    ap soundOf (c .make .ensures) ∙ ap (λ o. soundOf (o .arena)) (c .before .before .before .before .before .before .allocate-placed .ensures) ∙ allocate-sound (own l) (l .loop .inv .1) _ _ _
+    let l = c .before .before .before .before .before .before .before .before .before .before .before .before in
+    ap soundOf (c .make .ensures) ∙ ap (λ o. soundOf (o .arena)) (c .before .before .before .before .before .before .allocate-placed .ensures) ∙ allocate-sound (own l) (l .loop .inv .2) _ _ _
 
 -- what the reset leaves
 kept-sound : (a : Arena) → soundOf a ≡ true → soundOf (changedBy Kept a) ≡ true
@@ -44,6 +43,9 @@ kept-sound a s = ap (λ o. soundOf (o .arena)) (sym (sound-done a _ s)) ∙ rese
 
 loop-holds : tie.Need-loop-holds Inv-loop μ-loop
 loop-holds c = search needs
+
+first-of-requires : tie.Need-first-of-requires Inv-loop μ-loop
+first-of-requires c κs = omega arith
 
 allocate-placed-requires : tie.Need-allocate-placed-requires Inv-loop μ-loop
 allocate-placed-requires c κs = search needs
@@ -64,13 +66,18 @@ make-requires-2 : tie.Need-make-requires-2 Inv-loop μ-loop
 make-requires-2 c κs = held (c .before .before .before)
 
 add-turn : tie.Need-add-turn Inv-loop μ-loop
-add-turn c = omega (arith, c .before .before .before .before .before .before .before .before .before .before .before .before .before .before .loop-test .taken, c .before .before .before .before .before .before .before .before .before .before .before .before .before .before .before .before .before .before .before .before .fits)
+add-turn c = omega (arith, c .before .before .before .before .before .before .before .before .before .before .before .before .before .before .before .loop-test .taken, c .before .before .before .before .before .before .before .before .before .before .before .before .before .before .before .before .loop .inv .1)
 
 loop-less : tie.Need-loop-less Inv-loop μ-loop
-loop-less c = omega (arith, c .before .before .before .before .before .before .before .before .before .before .before .before .before .before .loop-test .taken)
+loop-less c = omega (arith, c .before .before .before .before .before .before .before .before .before .before .before .before .before .before .before .loop-test .taken, c .before .before .before .before .before .before .before .before .before .before .before .before .before .before .before .before .loop .inv .1)
 
 loop-again : tie.Need-loop-again Inv-loop μ-loop
-loop-again c = let m = c .before .before .before .before in (omega (arith, c .before .before .before .before .before .before .before .before .before .before .before .before .before .before .loop-test .taken), ap soundOf (c .make2 .ensures) ∙ kept-sound (made m) (held m))
+loop-again c =
+    let m = c .before .before .before .before in (
+      omega (arith, c .before .before .before .before .before .before .before .before .before .before .before .before .before .before .before .loop-test .taken, c .before .before .before .before .before .before .before .before .before .before .before .before .before .before .before .before .loop .inv .1),
+      c .before .before .before .before .before .before .before .before .before .before .before .before .before .before .before .before .loop .inv .1,
+      ap soundOf (c .make2 .ensures) ∙ kept-sound (made m) (held m),
+    )
 
 returns-2 : tie.Need-returns-2 Inv-loop μ-loop
 returns-2 c = search needs
@@ -82,6 +89,7 @@ reset-turns-spec =
     Inv-loop
     μ-loop
     loop-holds
+    first-of-requires
     allocate-placed-requires
     enum-told
     enum-told-2

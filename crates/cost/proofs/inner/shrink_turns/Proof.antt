@@ -1,5 +1,4 @@
--- `cost::inner::shrink_turns` meets its contract: it is safe, and no more turns are taken than were asked for. The record stays sound, and of the region that is lent.
--- Assumes nothing.
+-- `cost::inner::shrink_turns` meets its contract: it is safe, and no more turns are taken than were asked for. The record stays sound, and of the region that is lent. Assumes nothing.
 use Prim.Native.Nat.{_≤_, _-_}
 use native.Mathlib.Omega.{arith}
 use mathlib.Core.Path.{_≡_, _∙_}
@@ -12,11 +11,11 @@ use Rattle.cost.proofs.inner.shrink_turns.Statement.{statement}
 use Rattle.cost.proofs.inner.shrink_turns.Tie as tie
 
 abbrev Inv-loop : tie.InvT-loop
-Inv-loop region₀ turns size head₀ starts₀ sizes₀ pointers₀ turn₀ region head starts sizes pointers turn =
-    (turn ≤ turns) × (length region ≡ length region₀) × Lent (length region) (recordOf head starts sizes pointers)
+Inv-loop region₀ numbers turns head₀ starts₀ sizes₀ pointers₀ turn₀ region head starts sizes pointers turn =
+    (turn ≤ turns) × (turns ≤ 128) × (length region ≡ length region₀) × Lent (length region) (recordOf head starts sizes pointers)
 
 abbrev μ-loop : tie.MeasureT-loop
-μ-loop region₀ turns size head₀ starts₀ sizes₀ pointers₀ turn₀ region head starts sizes pointers turn =
+μ-loop region₀ numbers turns head₀ starts₀ sizes₀ pointers₀ turn₀ region head starts sizes pointers turn =
     turns - turn
 
 -- the record at the loop's head, and what the first call leaves
@@ -26,16 +25,16 @@ own l = recordOf (l .loop .head) (l .loop .starts) (l .loop .sizes) (l .loop .po
 abbrev made : tie.After-make Inv-loop μ-loop → Arena
 made c = recordOf (c .make .result) (c .make .last .1 .0) (c .make .last .1 .1 .0) (c .make .last .1 .1 .1 .0)
 
-held : (c : tie.After-make Inv-loop μ-loop) → Lent (length (c .before .before .before .before .before .before .before .before .before .before .before .before .loop .region)) (made c)
+held : (c : tie.After-make Inv-loop μ-loop) → Lent (length (c .before .before .before .before .before .before .before .before .before .before .before .before .before .loop .region)) (made c)
 held c =
-    let l = c .before .before .before .before .before .before .before .before .before .before .before .before in
-    lent-by _ (c .make .ensures) (allocate-lent _ (own l) (l .loop .inv .2) _ _ _ _ (c .before .before .before .before .before .before .before .allocate-placed .ensures))
+    let l = c .before .before .before .before .before .before .before .before .before .before .before .before .before in
+    lent-by _ (c .make .ensures) (allocate-lent _ (own l) (l .loop .inv .3) _ _ _ _ (c .before .before .before .before .before .before .before .allocate-placed .ensures))
 
 loop-holds : tie.Need-loop-holds Inv-loop μ-loop
 loop-holds c = search needs
 
-add-allocate-placed : tie.Need-add-allocate-placed Inv-loop μ-loop
-add-allocate-placed c = omega arith
+first-of-requires : tie.Need-first-of-requires Inv-loop μ-loop
+first-of-requires c κs = omega arith
 
 allocate-placed-requires : tie.Need-allocate-placed-requires Inv-loop μ-loop
 allocate-placed-requires c κs = search needs
@@ -55,11 +54,11 @@ returns c = search needs
 make-requires : tie.Need-make-requires Inv-loop μ-loop
 make-requires c κs = search needs
 
-add-shrink-placed : tie.Need-add-shrink-placed Inv-loop μ-loop
-add-shrink-placed c = omega arith
+second-of-requires : tie.Need-second-of-requires Inv-loop μ-loop
+second-of-requires c κs = omega (arith, c .before .before .before .before .before .before .before .before .before .before .before .before .loop-test .taken, c .before .before .before .before .before .before .before .before .before .before .before .before .before .loop .inv .1)
 
 shrink-placed-requires : tie.Need-shrink-placed-requires Inv-loop μ-loop
-shrink-placed-requires c κs = held (c .before .before .before .before)
+shrink-placed-requires c κs = held (c .before .before .before .before .before .before)
 
 enum-told-2 : tie.Need-enum-told-2 Inv-loop μ-loop
 enum-told-2 c = search needs
@@ -68,27 +67,28 @@ enum-told-3 : tie.Need-enum-told-3 Inv-loop μ-loop
 enum-told-3 c = search needs
 
 same-length-2 : tie.Need-same-length-2 Inv-loop μ-loop
-same-length-2 c = c .before .before .before .before .shrink-placed .kept .1 .1 .1 .1 .0 ∙ c .before .before .before .before .before .before .before .before .before .before .before .before .before .before .before .before .before .before .before .before .before .loop .inv .1
+same-length-2 c = c .before .before .before .before .shrink-placed .kept .1 .1 .1 .1 .0 ∙ c .before .before .before .before .before .before .before .before .before .before .before .before .before .before .before .before .before .before .before .before .before .before .before .before .loop .inv .2
 
 returns-2 : tie.Need-returns-2 Inv-loop μ-loop
 returns-2 c = search needs
 
 make-requires-2 : tie.Need-make-requires-2 Inv-loop μ-loop
-make-requires-2 c κs = held (c .before .before .before .before .before .before .before .before .before .before .before .before) .0
+make-requires-2 c κs = held (c .before .before .before .before .before .before .before .before .before .before .before .before .before .before) .0
 
 add-turn : tie.Need-add-turn Inv-loop μ-loop
-add-turn c = omega (arith, c .before .before .before .before .before .before .before .before .before .before .before .before .before .before .before .before .before .before .before .before .before .before .before .before .loop-test .taken, c .before .before .before .before .before .before .before .before .before .before .before .before .before .before .before .before .before .before .before .before .before .before .before .before .before .before .before .before .before .before .before .fits)
+add-turn c = omega (arith, c .before .before .before .before .before .before .before .before .before .before .before .before .before .before .before .before .before .before .before .before .before .before .before .before .before .before .before .loop-test .taken, c .before .before .before .before .before .before .before .before .before .before .before .before .before .before .before .before .before .before .before .before .before .before .before .before .before .before .before .before .loop .inv .1)
 
 loop-less : tie.Need-loop-less Inv-loop μ-loop
-loop-less c = omega (arith, c .before .before .before .before .before .before .before .before .before .before .before .before .before .before .before .before .before .before .before .before .before .before .before .before .loop-test .taken)
+loop-less c = omega (arith, c .before .before .before .before .before .before .before .before .before .before .before .before .before .before .before .before .before .before .before .before .before .before .before .before .before .before .before .loop-test .taken, c .before .before .before .before .before .before .before .before .before .before .before .before .before .before .before .before .before .before .before .before .before .before .before .before .before .before .before .before .loop .inv .1)
 
 loop-again : tie.Need-loop-again Inv-loop μ-loop
 loop-again c =
-    let m = c .before .before .before .before .before .before .before .before .before .before .before .before .before in
+    let l = c .before .before .before .before .before .before .before .before .before .before .before .before .before .before .before .before .before .before .before .before .before .before .before .before .before .before .before .before in
+    let m = c .before .before .before .before .before .before .before .before .before .before .before .before .before .before .before in
     let g = c .before .before .before .before .before .before .before .before .shrink-placed in
     let same = g .kept .1 .1 .1 .1 .0 in
     let after = lent-by _ (c .make2 .ensures) (shrink-lent _ (made m) (held m) _ _ _ _ _ _ _ (g .ensures .0)) in
-    (omega (arith, c .before .before .before .before .before .before .before .before .before .before .before .before .before .before .before .before .before .before .before .before .before .before .before .before .loop-test .taken), same ∙ m .before .before .before .before .before .before .before .before .before .before .before .before .loop .inv .1, (after .0, same ∙ after .1))
+    (omega (arith, c .before .before .before .before .before .before .before .before .before .before .before .before .before .before .before .before .before .before .before .before .before .before .before .before .before .before .before .loop-test .taken, c .before .before .before .before .before .before .before .before .before .before .before .before .before .before .before .before .before .before .before .before .before .before .before .before .before .before .before .before .loop .inv .1), l .loop .inv .1, same ∙ l .loop .inv .2, (after .0, same ∙ after .1))
 
 same-length-3 : tie.Need-same-length-3 Inv-loop μ-loop
 same-length-3 c = search needs
@@ -103,14 +103,14 @@ shrink-turns-spec =
     Inv-loop
     μ-loop
     loop-holds
-    add-allocate-placed
+    first-of-requires
     allocate-placed-requires
     enum-known-answer
     enum-told
     same-length
     returns
     make-requires
-    add-shrink-placed
+    second-of-requires
     shrink-placed-requires
     enum-told-2
     enum-told-3

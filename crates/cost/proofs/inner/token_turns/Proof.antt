@@ -1,11 +1,9 @@
--- `cost::inner::token_turns` meets its contract: it is safe, and no more turns are taken than were asked for. The record stays sound.
--- Assumes nothing.
+-- `cost::inner::token_turns` meets its contract: it is safe, and no more turns are taken than were asked for. The record stays sound. Assumes nothing.
 use Prim.Native.Nat.{_≤_, _-_}
 use native.Mathlib.Omega.{arith}
 use mathlib.Core.Bool.{true}
 use mathlib.Core.Path.{_≡_, ap, _∙_}
 use borrow.Author.Needs.{needs}
-use Rattle.arena.specs.declared.Arena.{Arena}
 use Rattle.arena.specs.Record.{recordOf}
 use Rattle.arena.specs.Sound.{soundOf}
 use Rattle.calls.proofs.StaysSound.{with-token-sound}
@@ -13,27 +11,18 @@ use Rattle.cost.proofs.inner.token_turns.Statement.{statement}
 use Rattle.cost.proofs.inner.token_turns.Tie as tie
 
 abbrev Inv-loop : tie.InvT-loop
-Inv-loop turns size head₀ starts₀ sizes₀ pointers₀ turn₀ head starts sizes pointers turn =
-    (turn ≤ turns) × (soundOf (recordOf head starts sizes pointers) ≡ true)
+Inv-loop numbers turns head₀ starts₀ sizes₀ pointers₀ turn₀ head starts sizes pointers turn =
+    (turn ≤ turns) × (turns ≤ 128) × (soundOf (recordOf head starts sizes pointers) ≡ true)
 
 abbrev μ-loop : tie.MeasureT-loop
-μ-loop turns size head₀ starts₀ sizes₀ pointers₀ turn₀ head starts sizes pointers turn =
+μ-loop numbers turns head₀ starts₀ sizes₀ pointers₀ turn₀ head starts sizes pointers turn =
     turns - turn
-
--- the record at the loop's head, and what the first call leaves
-abbrev own : tie.At-loop Inv-loop μ-loop → Arena
-own l = recordOf (l .loop .head) (l .loop .starts) (l .loop .sizes) (l .loop .pointers)
-
-abbrev made : tie.After-make Inv-loop μ-loop → Arena
-made c = recordOf (c .make .result) (c .make .last .1 .0) (c .make .last .1 .1 .0) (c .make .last .1 .1 .1 .0)
-
-held : (c : tie.After-make Inv-loop μ-loop) → soundOf (made c) ≡ true
-held c =
-    let l = c .before .before .before .before .before .before .before .before .before .before .before in
-    ap soundOf (c .make .ensures) ∙ ap (λ o. soundOf (o .arena)) (c .before .before .before .before .before .before .allocate-with-token-placed .ensures) ∙ with-token-sound (own l) (l .loop .inv .1) _ _ _
 
 loop-holds : tie.Need-loop-holds Inv-loop μ-loop
 loop-holds c = search needs
+
+first-of-requires : tie.Need-first-of-requires Inv-loop μ-loop
+first-of-requires c κs = omega arith
 
 allocate-with-token-placed-requires : tie.Need-allocate-with-token-placed-requires Inv-loop μ-loop
 allocate-with-token-placed-requires c κs = search needs
@@ -57,7 +46,14 @@ loop-less : tie.Need-loop-less Inv-loop μ-loop
 loop-less c = omega arith
 
 loop-again : tie.Need-loop-again Inv-loop μ-loop
-loop-again c = (omega arith, held c)
+loop-again c =
+    let l = c .before .before .before .before .before .before .before .before .before .before .before .before in (
+      omega (arith, c .before .before .before .before .before .before .before .before .before .before .before .loop-test .taken),
+      l .loop .inv .1,
+      ap soundOf (c .make .ensures)
+          ∙ ap (λ o. soundOf (o .arena)) (c .before .before .before .before .before .before .allocate-with-token-placed .ensures)
+          ∙ with-token-sound (recordOf (l .loop .head) (l .loop .starts) (l .loop .sizes) (l .loop .pointers)) (l .loop .inv .2) _ _ _,
+    )
 
 returns-2 : tie.Need-returns-2 Inv-loop μ-loop
 returns-2 c = search needs
@@ -69,6 +65,7 @@ token-turns-spec =
     Inv-loop
     μ-loop
     loop-holds
+    first-of-requires
     allocate-with-token-placed-requires
     enum-told
     enum-told-2

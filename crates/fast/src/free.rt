@@ -1,0 +1,55 @@
+// Free, in place.
+ghost use mathlib.Core.Path.{_≡_};
+ghost use mathlib.Core.Bool.{true};
+ghost use Rattle.arena.specs.Sound.{soundOf};
+ghost use Rattle.calls.specs.Free.{freeOf};
+ghost use Rattle.host.specs.Said.{saidOf};
+ghost use Rattle.fast.specs.Parts.{partsOf};
+use crate::parts::head_of;
+use crate::parts::make_in_parts;
+use arena::Refusal;
+use arena::sound::is_sound;
+use calls::free::free_ended;
+use host::Said;
+use host::answers::said_plain;
+use host::answers::said_refused;
+
+#[no_mangle]
+pub extern "C" fn miravoly_sound_free(
+    head: &mut [usize; 5],
+    starts: &mut [usize; 32],
+    sizes: &mut [usize; 32],
+    pointers: &mut [usize; 32],
+    offset: usize,
+    size: usize,
+    align: usize,
+) -> Said
+    requires { ⌜ soundOf (partsOf (now head) (now starts) (now sizes) (now pointers)) ≡ true ⌝ }
+    ensures { λ r. ⌜ r ≡ saidOf (freeOf (partsOf (now (head .entry)) (now (starts .entry)) (now (sizes .entry)) (now (pointers .entry))) offset size align .answer) ⌝ }
+    ensures { λ r. ⌜ partsOf (now (head .exit)) (now (starts .exit)) (now (sizes .exit)) (now (pointers .exit)) ≡ freeOf (partsOf (now (head .entry)) (now (starts .entry)) (now (sizes .entry)) (now (pointers .entry))) offset size align .arena ⌝ }
+{
+    let got = free_ended(head_of(head), starts, sizes, pointers, offset, size, align);
+    let answer = got.answer;
+    let change = got.change;
+    make_in_parts(head, starts, sizes, pointers, change);
+    said_plain(answer)
+}
+
+#[no_mangle]
+pub extern "C" fn miravoly_fast_free(
+    head: &mut [usize; 5],
+    starts: &mut [usize; 32],
+    sizes: &mut [usize; 32],
+    pointers: &mut [usize; 32],
+    offset: usize,
+    size: usize,
+    align: usize,
+) -> Said
+    ensures { λ r. ⌜ r ≡ saidOf (freeOf (partsOf (now (head .entry)) (now (starts .entry)) (now (sizes .entry)) (now (pointers .entry))) offset size align .answer) ⌝ }
+    ensures { λ r. ⌜ partsOf (now (head .exit)) (now (starts .exit)) (now (sizes .exit)) (now (pointers .exit)) ≡ freeOf (partsOf (now (head .entry)) (now (starts .entry)) (now (sizes .entry)) (now (pointers .entry))) offset size align .arena ⌝ }
+{
+    if !is_sound(head_of(head), starts, sizes, pointers) {
+        return said_refused(Refusal::State);
+    }
+    miravoly_sound_free(head, starts, sizes, pointers, offset, size, align)
+}
