@@ -1,36 +1,21 @@
-/* Tests of the archive through miravoly.h. Prints what was run and ends with status 1 if a check failed. */
-#include "miravoly.h"
-#include <stdbool.h>
+/* Tests of the archives through the headers. Prints what was run and ends with status 1 if a check failed. */
+#include "test.h"
 #include <stdio.h>
 #include <stdlib.h>
 #include <string.h>
 
 _Static_assert(sizeof(miravoly_arena) == 808, "the record has 808 bytes");
 
-#define LENGTH 2048
-#define GUARD 64
-#define TOO_LARGE (MIRAVOLY_LARGEST_SIZE + 1ull)
-
 static unsigned long checks, failures;
 
-static void check_at(int line, bool holds, const char *what) {
+void check_at(const char *file, int line, bool holds, const char *what) {
     checks++;
     if (!holds) {
         failures++;
         if (failures < 20)
-            printf("test.c:%d: %s\n", line, what);
+            printf("%s:%d: %s\n", file, line, what);
     }
 }
-#define CHECK(holds) check_at(__LINE__, holds, #holds)
-
-/* A record and a region with bytes around them that nobody may touch. */
-typedef struct place {
-    uint8_t before[GUARD];
-    miravoly_arena arena;
-    uint8_t between[GUARD];
-    uint8_t region[LENGTH];
-    uint8_t after[GUARD];
-} place;
 
 static uint64_t seed = 1;
 
@@ -41,88 +26,59 @@ static uint64_t any(void) {
     return seed * 0x2545F4914F6CDD1Dull;
 }
 
-static uint64_t below(uint64_t n) { return any() % n; }
+uint64_t below(uint64_t n) { return any() % n; }
 
-static void scribble(void *bytes, size_t n) {
+void scribble(void *bytes, size_t n) {
     uint8_t *b = bytes;
     for (size_t i = 0; i < n; i++)
         b[i] = (uint8_t)(any() >> 56);
 }
 
-/* ---- every entry by its number, with the same numbers for all ---- */
+uint8_t *source;
 
-typedef enum entry {
-    CREATE,
-    SET_LIMIT,
-    NO_LIMIT,
-    RESET,
-    ALLOCATE,
-    COPY_IN,
-    FILL,
-    FREE,
-    GROW,
-    GROW_ZEROED,
-    SHRINK,
-    RESIZE,
-    WITH_TOKEN,
-    CANCEL,
-    LEND,
-    WALK,
-    ENTRIES
-} entry;
-
-typedef struct request {
-    entry entry;
-    uint64_t lent;               /* the length passed with the region */
-    uint64_t offset, old, align; /* the block named */
-    uint64_t size, new_align;    /* what is asked for; the limit, the capacity, a token's numbers, an index */
-} request;
-
-static uint8_t *source; /* TOO_LARGE zeros, but for the first bytes */
-
-static miravoly_said ask(miravoly_arena *a, uint8_t *region, const request *q) {
+answer ask(miravoly_arena *a, uint8_t *region, const request *q) {
     switch (q->entry) {
     case CREATE:
-        return miravoly_create(a, q->lent, q->new_align, q->size);
+        return said(miravoly_create(a, q->lent, q->new_align, q->size));
     case SET_LIMIT:
-        return miravoly_set_limit(a, q->size);
+        return said(miravoly_set_limit(a, q->size));
     case NO_LIMIT:
-        return miravoly_no_limit(a);
+        return said(miravoly_no_limit(a));
     case RESET:
-        return miravoly_reset(a);
+        return said(miravoly_reset(a));
     case ALLOCATE:
-        return miravoly_allocate(a, region, q->lent, q->size, q->new_align);
+        return said(miravoly_allocate(a, region, q->lent, q->size, q->new_align));
     case COPY_IN:
-        return miravoly_copy_in(a, region, q->lent, source, q->size, q->new_align);
+        return said(miravoly_copy_in(a, region, q->lent, source, q->size, q->new_align));
     case FILL:
-        return miravoly_fill(a, region, q->lent, q->size, q->new_align, 0xA5);
+        return said(miravoly_fill(a, region, q->lent, q->size, q->new_align, 0xA5));
     case FREE:
-        return miravoly_free(a, q->offset, q->old, q->align);
+        return said(miravoly_free(a, q->offset, q->old, q->align));
     case GROW:
-        return miravoly_grow(a, region, q->lent, q->offset, q->old, q->align, q->size, q->new_align);
+        return said(miravoly_grow(a, region, q->lent, q->offset, q->old, q->align, q->size, q->new_align));
     case GROW_ZEROED:
-        return miravoly_grow_zeroed(a, region, q->lent, q->offset, q->old, q->align, q->size, q->new_align);
+        return said(miravoly_grow_zeroed(a, region, q->lent, q->offset, q->old, q->align, q->size, q->new_align));
     case SHRINK:
-        return miravoly_shrink(a, region, q->lent, q->offset, q->old, q->align, q->size, q->new_align);
+        return said(miravoly_shrink(a, region, q->lent, q->offset, q->old, q->align, q->size, q->new_align));
     case RESIZE:
-        return miravoly_resize(a, region, q->lent, q->offset, q->old, q->align, q->size);
+        return said(miravoly_resize(a, region, q->lent, q->offset, q->old, q->align, q->size));
     case WITH_TOKEN: {
-        miravoly_said_token got = miravoly_allocate_with_token(a, region, q->lent, q->size, q->new_align);
-        CHECK(got.refusal == 0 || (got.count == 0 && got.pointer == 0));
-        return (miravoly_said){got.refusal, got.offset};
+        answer got = said_token(miravoly_allocate_with_token(a, region, q->lent, q->size, q->new_align));
+        CHECK(got.refusal == 0 || (got.more[0] == 0 && got.more[1] == 0));
+        return got;
     }
     case CANCEL:
-        return miravoly_cancel(a, q->offset, q->size, q->new_align);
+        return said(miravoly_cancel(a, q->offset, q->size, q->new_align));
     case LEND: {
-        miravoly_said_part got = miravoly_lend(a, region, q->lent, q->offset, q->old, q->align);
-        CHECK(got.length == (got.refusal == 0 ? q->old : 0));
-        return (miravoly_said){got.refusal, got.offset};
+        answer got = said_part(miravoly_lend(a, region, q->lent, q->offset, q->old, q->align));
+        CHECK(got.more[0] == (got.refusal == 0 ? q->old : 0));
+        return got;
     }
     case WALK: {
         miravoly_said_step got = miravoly_walk(a, region, q->lent, q->size);
         CHECK(got.left != 0 || (got.offset == 0 && got.length == 0));
         CHECK(got.left == 0 || got.offset + got.length <= q->lent);
-        return (miravoly_said){got.refusal, got.offset};
+        return (answer){got.refusal, got.offset, {got.length, got.left}};
     }
     case ENTRIES:
         break;
@@ -184,11 +140,11 @@ static void write_expected(uint8_t *region, const request *q, uint64_t at) {
 }
 
 /* Asks, and holds every byte of record, region and guards to what was there before. */
-static miravoly_said ask_checked(place *p, const request *q) {
+static answer ask_checked(place *p, const request *q) {
     static place before;
     before = *p;
     bool was_sound = sound(&p->arena);
-    miravoly_said got = ask(&p->arena, p->region, q);
+    answer got = ask(&p->arena, p->region, q);
     CHECK(got.refusal <= MIRAVOLY_ROOM);
     CHECK(got.refusal == 0 || got.offset == 0);
     if (q->entry == CREATE) {
@@ -388,7 +344,7 @@ static uint64_t odd_number(void) {
 }
 
 /* Chunks in ascending places, sometimes too close together; where nothing is odd the record is sound. */
-static void random_record(miravoly_arena *a) {
+void random_record(miravoly_arena *a) {
     uint64_t *numbers = (uint64_t *)a;
     memset(a, 0, sizeof *a);
     if (below(8) == 0) {
@@ -424,7 +380,7 @@ static uint64_t some_size(void) { return below(8) == 0 ? odd_number() : below(80
 
 static uint64_t some_align(void) { return below(16) == 0 ? odd_number() : 1ull << below(below(4) ? 5 : 13); }
 
-static void random_request(request *q, entry e, const miravoly_arena *a) {
+void random_request(request *q, entry e, const miravoly_arena *a) {
     q->entry = e;
     /* Never more than there is: the host must see to that. */
     q->lent = e == CREATE ? odd_number() : below(16) == 0 ? below(LENGTH + 1) : LENGTH;
@@ -477,6 +433,8 @@ int main(int argc, char **argv) {
     refusals();
     carried();
     random_records(turns);
+    fast_entries(turns);
+    sound_entries(turns);
     printf("C: %lu checks, %lu failed\n", checks, failures);
     return failures != 0;
 }

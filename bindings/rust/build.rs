@@ -1,4 +1,4 @@
-// Says where libhost.a is: in the folder that MIRAVOLY_ARCHIVE names, else where `rt staticlib host` writes it.
+// Says where libhost.a and libfast.a are: in the folder that MIRAVOLY_ARCHIVE names, else where `rt staticlib` writes them.
 use std::env;
 use std::path::PathBuf;
 
@@ -8,9 +8,8 @@ fn main() {
         Some(folder) => PathBuf::from(folder),
         None => PathBuf::from(env!("CARGO_MANIFEST_DIR")).join("../../target/staticlib"),
     };
-    println!(
-        "cargo:rerun-if-changed={}",
-        folder.join("libhost.a").display()
-    );
+    for archive in ["libhost.a", "libfast.a"] {
+        println!("cargo:rerun-if-changed={}", folder.join(archive).display());
+    }
     println!("cargo:rustc-link-search=native={}", folder.display());
 }

@@ -1,4 +1,5 @@
-use crate::entries::{self, Named, Record};
+use crate::entries::{Named, Record, Said};
+use crate::sound::Sound;
 use crate::{Block, Refusal, Refused, Token, Walk};
 use std::fmt;
 use std::sync::atomic::{AtomicU64, Ordering};
@@ -7,13 +8,13 @@ static NEXT_ARENA: AtomicU64 = AtomicU64::new(0);
 
 /// An arena in a region that it borrows.
 ///
-/// Its record is made by a creation that was served, and only the proved calls change it, so it is sound from then on.
+/// Its record is made by a creation that was served, and only the proved calls change it, so it is sound from then on, and no call
+/// but the walk and those on the limit tests it again.
 ///
 /// A block that isn't a live one of this arena is refused [`Refusal::Block`], by [`cancel`](Arena::cancel)
 /// [`Refusal::Token`], before anything else is looked at.
 pub struct Arena<'r> {
-    record: Record,
-    region: &'r mut [u8],
+    sound: Sound<'r>,
     identity: u64,
     next_serial: u64,
     /// Blocks of lower serials were ended by a reset.
@@ -32,12 +33,8 @@ impl<'r> Arena<'r> {
         minimum: usize,
         capacity: usize,
     ) -> Result<Arena<'r>, Refusal> {
-        let mut record = Record::EMPTY;
-        let said = entries::create(&mut record, region.len(), minimum, capacity);
-        Refusal::heard(said.refusal)?;
         Ok(Arena {
-            record,
-            region,
+            sound: Sound::create(region, minimum, capacity)?,
             identity: NEXT_ARENA.fetch_add(1, Ordering::Relaxed),
             next_serial: 0,
             first_live: 0,
@@ -46,26 +43,26 @@ impl<'r> Arena<'r> {
 
     /// A block of `size` bytes, which are those that stood there.
     pub fn allocate(&mut self, size: usize, align: usize) -> Result<Block, Refusal> {
-        let said = entries::allocate(&mut self.record, self.region, size, align);
+        let said = self.sound.allocate(size, align);
         self.given(said.refusal, said.offset, size, align)
     }
 
     /// A block with a copy of the source.
     pub fn copy_in(&mut self, source: &[u8], align: usize) -> Result<Block, Refusal> {
-        let said = entries::copy_in(&mut self.record, self.region, source, align);
+        let said = self.sound.copy_in(source, align);
         self.given(said.refusal, said.offset, source.len(), align)
     }
 
     /// A block of `size` bytes of one value.
     pub fn fill(&mut self, size: usize, align: usize, value: u8) -> Result<Block, Refusal> {
-        let said = entries::fill(&mut self.record, self.region, size, align, value);
+        let said = self.sound.fill(size, align, value);
         self.given(said.refusal, said.offset, size, align)
     }
 
     /// Ends the block. Only the newest block's room is given back.
     pub fn free(&mut self, block: Block) -> Result<(), Refused<Block>> {
         let told = if self.knows(&block) {
-            Refusal::heard(entries::free(&mut self.record, block.at).refusal)
+            Refusal::heard(self.sound.free(block.at).refusal)
         } else {
             Err(Refusal::Block)
         };
@@ -79,9 +76,7 @@ impl<'r> Arena<'r> {
         size: usize,
         align: usize,
     ) -> Result<Block, Refused<Block>> {
-        self.moved(block, size, align, |a, region, at| {
-            entries::grow(a, region, at, size, align)
-        })
+        self.moved(block, size, align, |sound, at| sound.grow(at, size, align))
     }
 
     /// The same, with the bytes after them cleared.
@@ -91,8 +86,8 @@ impl<'r> Arena<'r> {
         size: usize,
         align: usize,
     ) -> Result<Block, Refused<Block>> {
-        self.moved(block, size, align, |a, region, at| {
-            entries::grow_zeroed(a, region, at, size, align)
+        self.moved(block, size, align, |sound, at| {
+            sound.grow_zeroed(at, size, align)
         })
     }
 
@@ -103,17 +98,15 @@ impl<'r> Arena<'r> {
         size: usize,
         align: usize,
     ) -> Result<Block, Refused<Block>> {
-        self.moved(block, size, align, |a, region, at| {
-            entries::shrink(a, region, at, size, align)
+        self.moved(block, size, align, |sound, at| {
+            sound.shrink(at, size, align)
         })
     }
 
     /// Grow or shrink, as the sizes say, with the alignment kept.
     pub fn resize(&mut self, block: Block, size: usize) -> Result<Block, Refused<Block>> {
         let align = block.align();
-        self.moved(block, size, align, |a, region, at| {
-            entries::resize(a, region, at, size)
-        })
+        self.moved(block, size, align, |sound, at| sound.resize(at, size))
     }
 
     /// A block, and a token to go back by.
@@ -122,7 +115,7 @@ impl<'r> Arena<'r> {
         size: usize,
         align: usize,
     ) -> Result<(Block, Token), Refusal> {
-        let said = entries::allocate_with_token(&mut self.record, self.region, size, align);
+        let said = self.sound.allocate_with_token(size, align);
         let block = self.given(said.refusal, said.offset, size, align)?;
         let token = Token {
             arena: block.arena,
@@ -137,8 +130,9 @@ impl<'r> Arena<'r> {
     pub fn cancel(&mut self, block: Block, token: Token) -> Result<(), Refused<(Block, Token)>> {
         let paired = (token.arena, token.serial) == (block.arena, block.serial);
         let told = if paired && self.knows(&block) {
-            let said =
-                entries::cancel(&mut self.record, block.offset(), token.count, token.pointer);
+            let said = self
+                .sound
+                .cancel(block.offset(), token.count, token.pointer);
             Refusal::heard(said.refusal)
         } else {
             Err(Refusal::Token)
@@ -148,30 +142,30 @@ impl<'r> Arena<'r> {
 
     /// Ends every block. The current chunk and the limit are kept.
     pub fn reset(&mut self) -> Result<(), Refusal> {
-        Refusal::heard(entries::reset(&mut self.record).refusal)?;
+        Refusal::heard(self.sound.reset().refusal)?;
         self.first_live = self.next_serial;
         Ok(())
     }
 
     /// Bounds the bytes that chunks may hold. A limit below the bytes held already counts as none.
     pub fn set_limit(&mut self, limit: usize) -> Result<(), Refusal> {
-        Refusal::heard(entries::set_limit(&mut self.record, limit).refusal)
+        Refusal::heard(self.sound.set_limit(limit).refusal)
     }
 
     pub fn no_limit(&mut self) -> Result<(), Refusal> {
-        Refusal::heard(entries::no_limit(&mut self.record).refusal)
+        Refusal::heard(self.sound.no_limit().refusal)
     }
 
     /// The block's own bytes.
     pub fn bytes(&self, block: &Block) -> Result<&[u8], Refusal> {
         let (from, to) = self.lent(block)?;
-        Ok(&self.region[from..to])
+        Ok(&self.region()[from..to])
     }
 
     /// The block's own bytes, for writing.
     pub fn bytes_mut(&mut self, block: &Block) -> Result<&mut [u8], Refusal> {
         let (from, to) = self.lent(block)?;
-        Ok(&mut self.region[from..to])
+        Ok(&mut self.sound.region_mut()[from..to])
     }
 
     /// Writes the source from the block's first byte on. Refused [`Refusal::Size`] where it is longer than the block.
@@ -189,21 +183,21 @@ impl<'r> Arena<'r> {
 
     /// The sum of the held chunks' usable sizes.
     pub fn held_bytes(&self) -> usize {
-        self.record.sizes[..self.record.count].iter().sum()
+        self.record().sizes[..self.record().count].iter().sum()
     }
 
     pub fn limit(&self) -> Option<usize> {
-        (self.record.limited == 1).then_some(self.record.limit)
+        (self.record().limited == 1).then_some(self.record().limit)
     }
 
     /// To read.
     pub fn record(&self) -> &Record {
-        &self.record
+        self.sound.record()
     }
 
     /// Every lent byte, to read.
     pub fn region(&self) -> &[u8] {
-        self.region
+        self.sound.region()
     }
 
     /// The proved calls take a stale block whose numbers suit the arena, so it is caught here.
@@ -237,12 +231,12 @@ impl<'r> Arena<'r> {
         block: Block,
         size: usize,
         align: usize,
-        call: impl FnOnce(&mut Record, &mut [u8], Named) -> entries::Said,
+        call: impl FnOnce(&mut Sound<'r>, Named) -> Said,
     ) -> Result<Block, Refused<Block>> {
         if !self.knows(&block) {
             return Err(Refused::giving_back(block)(Refusal::Block));
         }
-        let said = call(&mut self.record, self.region, block.at);
+        let said = call(&mut self.sound, block.at);
         let new = self.given(said.refusal, said.offset, size, align);
         new.map_err(Refused::giving_back(block))
     }
@@ -251,7 +245,7 @@ impl<'r> Arena<'r> {
         if !self.knows(block) {
             return Err(Refusal::Block);
         }
-        let part = entries::lend(&self.record, self.region, block.at);
+        let part = self.sound.lend(block.at);
         Refusal::heard(part.refusal)?;
         Ok((part.offset, part.offset + part.length))
     }
@@ -261,7 +255,7 @@ impl<'r> Arena<'r> {
 impl fmt::Debug for Arena<'_> {
     fn fmt(&self, f: &mut fmt::Formatter<'_>) -> fmt::Result {
         f.debug_struct("Arena")
-            .field("record", &self.record)
+            .field("record", self.record())
             .finish_non_exhaustive()
     }
 }

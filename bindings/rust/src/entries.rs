@@ -3,10 +3,10 @@
 //! Any record and any numbers may be passed; what does not suit is refused by its number. So these functions are safe. They
 //! don't know which blocks are live: [`Arena`](crate::Arena) does.
 //!
-//! Every `unsafe` block of the crate is in this file, and all have one reason. The record is a reference to a struct of the
-//! layout that the archive uses. A slice goes as its pointer and its length, and outlives the call, which keeps nothing. The
-//! entries are proved to end, to touch nothing but the record and the bytes of these slices, and to write only in those that
-//! are `mut` here. Rust's borrowing sees to it that record, region and source share no byte.
+//! The `unsafe` blocks of this file have one reason. The record is a reference to a struct of the layout that the archive uses. A
+//! slice goes as its pointer and its length, and outlives the call, which keeps nothing. The entries are proved to end, to touch
+//! nothing but the record and the bytes of these slices, and to write only in those that are `mut` here. Rust's borrowing sees to
+//! it that record, region and source share no byte.
 
 /// The arena's record. Any numbers may stand in it.
 #[repr(C)]

@@ -24,19 +24,21 @@
 //! * Regions and sizes go up to [`LARGEST`] bytes, alignments are powers of two up to [`LARGEST_ALIGN`].
 //! * An alignment is one of the offset. For aligned addresses lend a region that begins at a multiple of 4,096.
 //!
-//! The archive `libhost.a` has the proved calls, for x86-64: `rt staticlib host` writes it, and the build looks for it in the
-//! folder that `MIRAVOLY_ARCHIVE` names.
+//! The archives `libhost.a` and `libfast.a` have the proved calls, for x86-64: `rt staticlib host` and `rt staticlib fast` write
+//! them, and the build looks for them in the folder that `MIRAVOLY_ARCHIVE` names.
 #![deny(unsafe_code)]
 #![warn(missing_debug_implementations)]
 
 #[cfg(not(target_arch = "x86_64"))]
-compile_error!("libhost.a is for x86-64");
+compile_error!("the archives are for x86-64");
 
 mod arena;
 mod block;
 #[allow(unsafe_code)]
 pub mod entries;
 mod refusal;
+#[allow(unsafe_code)]
+mod sound;
 mod walk;
 
 pub use arena::Arena;

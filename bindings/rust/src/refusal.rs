@@ -39,7 +39,7 @@ impl Refusal {
             6 => Refusal::Direction,
             7 => Refusal::Token,
             8 => Refusal::Room,
-            _ => panic!("libhost.a is not the archive that this crate is for"),
+            _ => panic!("the archives are not those that this crate is for"),
         })
     }
 }
