@@ -165,6 +165,9 @@ int main(int argc, char **argv) {
     if (region == MAP_FAILED || source == NULL)
         return 2;
     hold(chunks, strstr(argv[3], "falling") != NULL, strstr(argv[3], "full") != NULL);
+    /* The sound entries take a record that was found sound once. */
+    if (miravoly_walk(&arena, region, length, 0).refusal != MIRAVOLY_SERVED)
+        return 2;
     static numbers list[MOST_TURNS];
     for (int i = 0; i < MOST_TURNS; i++)
         list[i] = (numbers){size, align, size, align, given[8], align, 0, 0};

@@ -71,7 +71,7 @@ fn carry_through(region: &mut [u8], block: &mut [u8], from: usize, to: usize)
     copy_from(region, to, block);
 }
 
-// Few bytes: two short copies by the C library cost less than a loop, and it does not matter what bytes the two places share.
+// Few bytes: the compiler makes one short move of the two copies, which costs less than a loop, and it does not matter what bytes the places share.
 fn carry_short(region: &mut [u8], from: usize, to: usize, n: usize)
     requires { ⌜ (n ≤ 64) × (from + n ≤ length (now region)) × (to + n ≤ length (now region)) ⌝ }
     ensures { λ r. ⌜ now (region .exit) ≡ carried (now (region .entry)) from to n ⌝ }

@@ -1,4 +1,5 @@
-// The calls of document 01 by value: the record goes in, and comes back beside the answer.
+// Allocate, free, copy in, fill and lend by value: the record goes in, and comes back beside the answer. `reshape` and `takeback` have the other calls, over what is
+// shared here.
 pub mod allocate;
 pub mod block;
 pub mod bytes;
