@@ -1,6 +1,6 @@
 use crate::entries::{Named, Record, Said};
 use crate::sound::Sound;
-use crate::{Block, Refusal, Refused, Token, Walk};
+use crate::{Block, Guard, Refusal, Refused, Token, Walk};
 use std::fmt;
 use std::sync::atomic::{AtomicU64, Ordering};
 
@@ -138,6 +138,12 @@ impl<'r> Arena<'r> {
             Err(Refusal::Token)
         };
         told.map_err(Refused::giving_back((block, token)))
+    }
+
+    /// A block that is taken back when its guard is dropped, unless it is [kept](Guard::keep).
+    pub fn guarded(&mut self, size: usize, align: usize) -> Result<Guard<'_, 'r>, Refusal> {
+        let (block, token) = self.allocate_with_token(size, align)?;
+        Ok(Guard::new(self, block, token))
     }
 
     /// Ends every block. The current chunk and the limit are kept.

@@ -20,6 +20,7 @@
 //! * The arena runs downward: also the newest block moves when it grows. So a call that moves or ends a [`Block`] takes it and
 //!   gives another.
 //! * Only the newest block's room is given back by [`Arena::free`].
+//! * [`Arena::guarded`] gives a block that is taken back with its [`Guard`], for a value that may not come about.
 //! * A refusal changes nothing, and gives the block back in [`Refused`]. [`Refusal::Room`] doesn't mean that the region is full.
 //! * Regions and sizes go up to [`LARGEST`] bytes, alignments are powers of two up to [`LARGEST_ALIGN`].
 //! * An alignment is one of the offset. For aligned addresses lend a region that begins at a multiple of 4,096.
@@ -36,6 +37,7 @@ mod arena;
 mod block;
 #[allow(unsafe_code)]
 pub mod entries;
+mod guard;
 mod refusal;
 #[allow(unsafe_code)]
 mod sound;
@@ -43,6 +45,7 @@ mod walk;
 
 pub use arena::Arena;
 pub use block::{Block, Token};
+pub use guard::Guard;
 pub use refusal::{Refusal, Refused};
 pub use walk::Walk;
 
