@@ -212,6 +212,7 @@ impl<'r> Sound<'r> {
 
     /// Every part is reached from one pointer to the whole record, so that the head's may go on from `region` to `count`.
     fn parts(&mut self) -> Parts {
+        let length = self.record.region;
         let record: *mut Record = &mut self.record;
         // SAFETY: the pointer is that of a record; places in it are named, and nothing is read.
         let (starts, sizes, pointers) = unsafe {
@@ -221,13 +222,16 @@ impl<'r> Sound<'r> {
                 addr_of_mut!((*record).pointers),
             )
         };
-        Parts {
+        let parts = Parts {
             head: record.cast(),
             starts,
             sizes,
             pointers,
             region: self.region.as_mut_ptr(),
             lent: self.region.len(),
-        }
+        };
+        // The entries don't look at it.
+        debug_assert_eq!(parts.lent, length);
+        parts
     }
 }
