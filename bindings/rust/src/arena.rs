@@ -197,6 +197,12 @@ impl<'r> Arena<'r> {
     }
 
     /// To read.
+    ///
+    /// ```compile_fail
+    /// # let mut region = [0; 1024];
+    /// # let mut arena = miravoly::Arena::new(&mut region).unwrap();
+    /// arena.record().count = 33; // only the calls change it
+    /// ```
     pub fn record(&self) -> &Record {
         self.sound.record()
     }

@@ -12,6 +12,13 @@ use crate::entries::Named;
 /// arena.free(block).unwrap();
 /// arena.bytes(&block); // it was freed
 /// ```
+///
+/// ```compile_fail
+/// # let mut region = [0; 1024];
+/// # let mut arena = miravoly::Arena::new(&mut region).unwrap();
+/// let block = arena.allocate(10, 1).unwrap();
+/// arena.free(block.clone()).unwrap(); // there is one block
+/// ```
 #[derive(Debug, PartialEq, Eq)]
 #[must_use = "the block's bytes stay taken until the arena is reset"]
 pub struct Block {
@@ -37,6 +44,13 @@ impl Block {
 }
 
 /// What was there before a block was allocated, to go back to it. It is void once its block is freed or moved.
+///
+/// ```compile_fail
+/// # let mut region = [0; 1024];
+/// # let mut arena = miravoly::Arena::new(&mut region).unwrap();
+/// let (block, token) = arena.allocate_with_token(10, 1).unwrap();
+/// arena.cancel(block, token.clone()).unwrap(); // there is one token
+/// ```
 #[derive(Debug, PartialEq, Eq)]
 pub struct Token {
     pub(crate) arena: u64,
