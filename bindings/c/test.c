@@ -435,6 +435,7 @@ int main(int argc, char **argv) {
     random_records(turns);
     fast_entries(turns);
     sound_entries(turns);
+    long_moves(turns);
     printf("C: %lu checks, %lu failed\n", checks, failures);
     return failures != 0;
 }

@@ -82,5 +82,6 @@ void random_request(request *q, entry e, const miravoly_arena *a);
 
 void fast_entries(unsigned long turns);
 void sound_entries(unsigned long turns);
+void long_moves(unsigned long turns);
 
 #endif

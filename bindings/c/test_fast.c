@@ -160,3 +160,57 @@ void sound_entries(unsigned long turns) {
     end("sound");
     CHECK(answered[MIRAVOLY_STATE] == 0 && answered[MIRAVOLY_REGION] == 0);
 }
+
+#define LIVE 4
+
+typedef struct block {
+    uint64_t offset, size, align;
+} block;
+
+/* A move of this block, to a size that suits the entry. */
+static request some_move(const block *b) {
+    request q = {GROW + below(RESIZE - GROW + 1), LENGTH, b->offset, b->size, b->align, 0, 1ull << below(5)};
+    q.size = q.entry == SHRINK ? below(b->size + 1) : q.entry == RESIZE ? below(400) : b->size + below(200);
+    return q;
+}
+
+static void long_moves_by(asking *ask_other, const char *kind, unsigned long turns) {
+    unsigned long moved[ENTRIES] = {0};
+    begin();
+    for (unsigned long i = 0; i < turns / 8; i++) {
+        block live[LIVE];
+        uint64_t count = 0;
+        scribble(&plain, sizeof plain);
+        CHECK(miravoly_create(&plain.arena, LENGTH, 1ull << below(5), below(2) ? 0 : 1500).refusal == 0);
+        other = plain;
+        for (int call = 0; call < 24; call++) {
+            request q = {below(2) ? ALLOCATE : COPY_IN, LENGTH, 0, 0, 0, below(400), 1ull << below(5)};
+            block *b = &live[count];
+            if (count == LIVE || (count != 0 && below(3))) {
+                /* Often the newest. */
+                b = &live[below(2) ? count - 1 : below(count)];
+                q = some_move(b);
+            }
+            answer got = ask_both(ask_other, &q);
+            CHECK(got.refusal == 0 || got.refusal == MIRAVOLY_ROOM);
+            if (got.refusal != 0)
+                continue;
+            moved[q.entry] += got.offset != q.offset && q.old > 64 && q.size > 64;
+            count += b == &live[count];
+            *b = (block){got.offset, q.size, q.entry == RESIZE ? q.align : q.new_align};
+        }
+    }
+    printf("C: %lu calls by a %s entry and by the plain one on live blocks; over 64 bytes moved by grow to resize:",
+           asked, kind);
+    for (entry e = GROW; e <= RESIZE; e++) {
+        printf(" %lu", moved[e]);
+        CHECK(moved[e] > 0);
+    }
+    printf("\n");
+}
+
+/* Sequences on live blocks of some hundred bytes: over 64 bytes are moved by other code than fewer. */
+void long_moves(unsigned long turns) {
+    long_moves_by(ask_fast, "fast", turns);
+    long_moves_by(ask_sound, "sound", turns);
+}
