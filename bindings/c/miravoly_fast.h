@@ -19,8 +19,10 @@
  *         return more.refusal; // the old block is still there
  *
  * A call is written as in miravoly.h, with one word more in its name and
- * MIRAVOLY_PARTS(&arena) in place of &arena. miravoly.h says what it does. There
- * are two kinds, and both are proved against the same definitions.
+ * MIRAVOLY_PARTS(&arena) in place of &arena; but miravoly_sound_allocate,
+ * miravoly_sound_allocate_with_token and miravoly_sound_lend are lent no region.
+ * miravoly.h says what a call does. There are two kinds, and both are proved
+ * against the same definitions.
  *
  * FAST, miravoly_fast_*: record and region are tested. Whatever numbers stand in
  * the record and in the call, the answer is that of miravoly.h's call, and so
@@ -33,16 +35,19 @@
  * WHAT THE HOST MUST SEE TO. All that miravoly.h asks for; and, for the sound
  * kind, three things more:
  *
- *   - The record was made by a creation that was served.
+ *   - The record was made by a creation that was served. As good as a created one
+ *     is a record that went with a region to a call of miravoly.h or of the fast
+ *     kind, if that did not answer STATE or REGION: so a host may test a record
+ *     once and then go on with the sound kind.
  *   - Since then nothing but calls of the two headers has changed a byte of it.
  *     A copy of the whole record is as good as the record.
- *   - The region that is lent has the length that the creation was told.
+ *   - The region that is lent has the length that the creation, or that call, was
+ *     told.
  *
- * Otherwise anything may happen, writes outside the region too, since nothing is
- * tested. A host keeps to it by keeping the record where nobody else can write:
- * behind a handle that is opaque to its callers. A record that came from
- * elsewhere, or that others can write in between two calls, goes to the fast kind
- * or to miravoly.h.
+ * Otherwise anything may happen, writes outside the region too, since the record
+ * is not tested. A host keeps to it by keeping the record where nobody else can
+ * write: behind a handle that is opaque to its callers. A record that others can
+ * write in between two calls goes to the fast kind or to miravoly.h each time.
  */
 #ifndef MIRAVOLY_FAST_H
 #define MIRAVOLY_FAST_H
@@ -55,7 +60,9 @@ extern "C" {
 
 /*
  * A record's parts: its head, which is the five numbers from region to count,
- * and its three columns. Always all four of one record.
+ * and its three columns. Always all four of one record. The head is reached
+ * through the address of its first number: a call reads and writes all five from
+ * there. The argument is named four times, so it must have no effects.
  */
 #define MIRAVOLY_PARTS(arena) &(arena)->region, (arena)->starts, (arena)->sizes, (arena)->pointers
 
