@@ -4,9 +4,11 @@
 //! length that stands in it. Both hold of every [`Sound`]:
 //!
 //! * Its fields are private to this file, and [`Sound::create`] alone makes one, from a creation that was served: the record is
-//!   then sound and has the region's length.
-//! * Only the proved calls are handed the record to change, and they are proved to leave a sound one with the same length
-//!   (`run-sound` and `run-region` in `crates/requests/proofs/Keeping.antt`).
+//!   then sound and has the region's length (`created-started` in `crates/arena/proofs/StaysSound.antt`, by `standing-sound` in
+//!   `Standing.antt` beside it).
+//! * Only the proved calls are handed the record to change, and they are proved to leave a sound one with the same length: ten of
+//!   them by `run-sound` and `run-region` in `crates/requests/proofs/Keeping.antt`. By their contracts copy_in and fill change the
+//!   record as allocate does, and grow_zeroed as grow.
 //! * Record and region move together. A slice's length doesn't change, and its bytes may be anything.
 //!
 //! The `unsafe` blocks of this file have that reason, and those of `entries.rs`: a slice goes as its pointer and its length and
