@@ -2,12 +2,15 @@
 // `miravoly_fast_*` tests the record as the entries of `host` do, and answers the same. `miravoly_sound_*` requires that the record is sound and that the
 // region is its own, for a host that keeps both to itself: then nothing but the call's own numbers is tested.
 pub mod allocate;
+pub mod cancel;
+pub mod copy_in;
+pub mod fill;
 pub mod free;
 pub mod grow;
+pub mod grow_zeroed;
 pub mod lend;
 mod parts;
 pub mod reset;
 pub mod resize;
 pub mod shrink;
-pub mod tokens;
-pub mod write;
+pub mod token;

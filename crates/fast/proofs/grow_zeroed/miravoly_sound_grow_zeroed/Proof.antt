@@ -1,4 +1,4 @@
--- `fast::grow::miravoly_sound_grow_zeroed` meets its contract: after a served grow the bytes past the old ones are cleared, and they lie in the region.
+-- `fast::grow_zeroed::miravoly_sound_grow_zeroed` meets its contract: after a served grow the bytes past the old ones are cleared, and they lie in the region.
 -- Assumes nothing.
 use Prim.Native.Nat.{ℕ, _+_, _-_, _≤_}
 use native.Mathlib.Omega.{arith}
@@ -10,8 +10,8 @@ use Rattle.calls.specs.Grow.{growBytes, growZeroedBytes}
 use Rattle.calls.proofs.Changing.{BothInside, grow-served}
 use borrow.Author.Needs.{needs}
 use Rattle.fast.proofs.InParts.{said-served, served-bytes, unserved-bytes}
-use Rattle.fast.proofs.grow.miravoly_sound_grow_zeroed.Statement.{statement}
-use Rattle.fast.proofs.grow.miravoly_sound_grow_zeroed.Tie as tie
+use Rattle.fast.proofs.grow_zeroed.miravoly_sound_grow_zeroed.Statement.{statement}
+use Rattle.fast.proofs.grow_zeroed.miravoly_sound_grow_zeroed.Tie as tie
 
 -- what carrying makes of the bytes, and then clearing
 abbrev moved : List ℕ → ℕ → ℕ → ℕ → List ℕ

@@ -1,11 +1,11 @@
--- `fast::tokens::miravoly_sound_allocate_with_token` meets its contract: the inner form, and its change made in place. Assumes nothing.
+-- `fast::token::miravoly_sound_allocate_with_token` meets its contract: the inner form, and its change made in place. Assumes nothing.
 use mathlib.Core.Path.{_≡_}
 use Rattle.arena.specs.declared.Arena.{Arena}
 use Rattle.calls.specs.Token.{withTokenOf}
 use Rattle.fast.proofs.InParts.{as-read, sound-as-read, token-in-parts}
 use borrow.Author.Needs.{needs}
-use Rattle.fast.proofs.tokens.miravoly_sound_allocate_with_token.Statement.{statement}
-use Rattle.fast.proofs.tokens.miravoly_sound_allocate_with_token.Tie as tie
+use Rattle.fast.proofs.token.miravoly_sound_allocate_with_token.Statement.{statement}
+use Rattle.fast.proofs.token.miravoly_sound_allocate_with_token.Tie as tie
 
 head-of-requires : tie.Need-head-of-requires
 head-of-requires c κs = search needs

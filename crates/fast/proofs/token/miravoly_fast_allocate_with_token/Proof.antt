@@ -1,4 +1,4 @@
--- `fast::tokens::miravoly_fast_allocate_with_token` meets its contract: an unsound record or another region's length is refused, and the rest is the sound record's.
+-- `fast::token::miravoly_fast_allocate_with_token` meets its contract: an unsound record or another region's length is refused, and the rest is the sound record's.
 -- Assumes nothing.
 use Prim.Native.Nat.{ℕ}
 use mathlib.Core.List.{[], _∷_}
@@ -18,8 +18,8 @@ use Rattle.host.specs.Said.{saidToken}
 use borrow.Author.Needs.{needs}
 use Rattle.fast.specs.Parts.{partsOf}
 use Rattle.fast.proofs.InParts.{as-read, lent-refused, lent-passed}
-use Rattle.fast.proofs.tokens.miravoly_fast_allocate_with_token.Statement.{statement}
-use Rattle.fast.proofs.tokens.miravoly_fast_allocate_with_token.Tie as tie
+use Rattle.fast.proofs.token.miravoly_fast_allocate_with_token.Statement.{statement}
+use Rattle.fast.proofs.token.miravoly_fast_allocate_with_token.Tie as tie
 
 -- where the function begins, from the answer of the tests, and the record that is lent
 abbrev start : tie.After-lent-answer → tie.Start

@@ -1,11 +1,11 @@
--- `fast::tokens::miravoly_sound_cancel` meets its contract: the inner form, and its change made in place. Assumes nothing.
+-- `fast::cancel::miravoly_sound_cancel` meets its contract: the inner form, and its change made in place. Assumes nothing.
 use mathlib.Core.Path.{_≡_}
 use Rattle.arena.specs.declared.Arena.{Arena}
 use Rattle.calls.specs.Token.{tokenOf, cancelOf}
 use Rattle.fast.proofs.InParts.{as-read, sound-as-read, ended-in-parts}
 use borrow.Author.Needs.{needs}
-use Rattle.fast.proofs.tokens.miravoly_sound_cancel.Statement.{statement}
-use Rattle.fast.proofs.tokens.miravoly_sound_cancel.Tie as tie
+use Rattle.fast.proofs.cancel.miravoly_sound_cancel.Statement.{statement}
+use Rattle.fast.proofs.cancel.miravoly_sound_cancel.Tie as tie
 
 head-of-requires : tie.Need-head-of-requires
 head-of-requires c κs = search needs

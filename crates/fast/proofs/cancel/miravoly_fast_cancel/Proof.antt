@@ -1,4 +1,4 @@
--- `fast::tokens::miravoly_fast_cancel` meets its contract: an unsound record is refused, and the rest is the sound record's. Assumes nothing.
+-- `fast::cancel::miravoly_fast_cancel` meets its contract: an unsound record is refused, and the rest is the sound record's. Assumes nothing.
 use mathlib.Core.Path.{_≡_, ap, _∙_}
 use Rattle.rounding.proofs.Tests.{taken-false, left-true}
 use Rattle.arena.specs.declared.Arena.{Arena}
@@ -8,8 +8,8 @@ use Rattle.calls.proofs.Cancelling.{cancel-state}
 use borrow.Author.Needs.{needs}
 use Rattle.fast.specs.Parts.{partsOf}
 use Rattle.fast.proofs.InParts.{as-read, refused-plain}
-use Rattle.fast.proofs.tokens.miravoly_fast_cancel.Statement.{statement}
-use Rattle.fast.proofs.tokens.miravoly_fast_cancel.Tie as tie
+use Rattle.fast.proofs.cancel.miravoly_fast_cancel.Statement.{statement}
+use Rattle.fast.proofs.cancel.miravoly_fast_cancel.Tie as tie
 
 -- where the function begins, from the answer of the test, and the record that is lent
 abbrev start : tie.After-is-sound → tie.Start

@@ -1,9 +1,9 @@
--- `fast::tokens::said_token` meets its contract. Assumes nothing.
+-- `fast::token::said_token` meets its contract. Assumes nothing.
 use mathlib.Core.Path.{ap}
 use Rattle.host.specs.declared.Said.{Said}
 use borrow.Author.Needs.{needs}
-use Rattle.fast.proofs.tokens.said_token.Statement.{statement}
-use Rattle.fast.proofs.tokens.said_token.Tie as tie
+use Rattle.fast.proofs.token.said_token.Statement.{statement}
+use Rattle.fast.proofs.token.said_token.Tie as tie
 
 said-given-requires : tie.Need-said-given-requires
 said-given-requires c κs = search needs
