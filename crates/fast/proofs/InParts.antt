@@ -39,8 +39,8 @@ use Rattle.calls.specs.Write.{lendAnswer, lendOf}
 use Rattle.calls.proofs.Testing.{Lent, tests-refuse, tests-pass, lent-passes}
 use Rattle.host.specs.declared.Said.{Said}
 use Rattle.host.specs.declared.SaidToken.{SaidToken}
-use Rattle.host.specs.Said.{said, saidOf, saidGiven, saidToken}
-use Rattle.fast.specs.Parts.{headOf, partsOf, tokenSaid}
+use Rattle.host.specs.Said.{said, saidOf, saidGiven, tokenSaid, saidToken}
+use Rattle.fast.specs.Parts.{headOf, partsOf}
 
 -- the record whose head was read from its five numbers
 pub as-read : {h : Head} (head starts sizes pointers : List ℕ) → h ≡ headOf head → recordOf h starts sizes pointers ≡ partsOf head starts sizes pointers

@@ -5,10 +5,6 @@ use lib.ListN.{getD}
 use Rattle.arena.specs.declared.Head.{Head}
 use Rattle.arena.specs.declared.Arena.{Arena}
 use Rattle.arena.specs.Record.{recordOf}
-use Rattle.calls.specs.declared.Given.{Given}
-use Rattle.calls.specs.declared.Token.{Token}
-use Rattle.host.specs.declared.SaidToken.{SaidToken}
-use Rattle.host.specs.Said.{saidGiven}
 
 unfoldable pub headOf : List ℕ → Head
 headOf numbers =
@@ -22,13 +18,3 @@ headOf numbers =
 
 abbrev pub partsOf : List ℕ → List ℕ → List ℕ → List ℕ → Arena
 partsOf head starts sizes pointers = recordOf (headOf head) starts sizes pointers
-
--- an answer with the token beside it, in numbers
-abbrev pub tokenSaid : Given → Token → SaidToken
-tokenSaid answer token =
-    record {
-      refusal = saidGiven answer .refusal;
-      offset = saidGiven answer .offset;
-      count = token .count;
-      pointer = token .pointer;
-    }

@@ -5,7 +5,7 @@ ghost use lib.ListN.{length};
 ghost use Rattle.arena.specs.Sound.{soundOf};
 ghost use Rattle.calls.specs.Token.{withTokenOf};
 ghost use Rattle.host.specs.Said.{saidToken};
-ghost use Rattle.fast.specs.Parts.{headOf, partsOf, tokenSaid};
+ghost use Rattle.fast.specs.Parts.{headOf, partsOf};
 use crate::parts::head_of;
 use crate::parts::make_in_parts;
 use arena::Answer;
@@ -13,20 +13,8 @@ use calls::Given;
 use calls::Token;
 use calls::refusals::lent_answer;
 use host::SaidToken;
-use host::answers::said_given;
+use host::answers::said_token;
 use takeback::tokens::allocate_with_token_placed;
-
-fn said_token(answer: Given, token: Token) -> SaidToken
-    ensures { λ r. ⌜ r ≡ tokenSaid answer token ⌝ }
-{
-    let said = said_given(answer);
-    SaidToken {
-        refusal: said.refusal,
-        offset: said.offset,
-        count: token.count,
-        pointer: token.pointer,
-    }
-}
 
 #[no_mangle]
 pub extern "C" fn miravoly_sound_allocate_with_token(

@@ -7,6 +7,7 @@ use Rattle.arena.specs.Refusals.{numberOf}
 use Rattle.calls.specs.declared.Given.{Given}
 use Rattle.calls.specs.declared.Given.the-variants.{At, Refused}
 use Rattle.calls.specs.declared.Allocation.{Allocation}
+use Rattle.calls.specs.declared.Token.{Token}
 use Rattle.calls.specs.declared.TokenAllocation.{TokenAllocation}
 use Rattle.host.specs.declared.Said.{Said}
 use Rattle.host.specs.declared.SaidPart.{SaidPart}
@@ -28,14 +29,17 @@ saidGiven (At offset) = said 0 offset
 saidGiven (Refused r) = said (numberOf r) 0
 
 -- of one that records a token too
-unfoldable pub saidToken : TokenAllocation → SaidToken
-saidToken got =
+abbrev pub tokenSaid : Given → Token → SaidToken
+tokenSaid answer token =
     record {
-      refusal = saidGiven (got .answer) .refusal;
-      offset = saidGiven (got .answer) .offset;
-      count = got .token .count;
-      pointer = got .token .pointer;
+      refusal = saidGiven answer .refusal;
+      offset = saidGiven answer .offset;
+      count = token .count;
+      pointer = token .pointer;
     }
+
+unfoldable pub saidToken : TokenAllocation → SaidToken
+saidToken got = tokenSaid (got .answer) (got .token)
 
 -- of lending: the part, which is empty where it is refused
 abbrev pub saidAt : ℕ → ℕ → ℕ → SaidPart

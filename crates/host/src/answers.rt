@@ -1,7 +1,7 @@
 // The answers of the calls by value as plain numbers, with the record beside them.
 ghost use mathlib.Core.Path.{_≡_};
 ghost use Rattle.arena.specs.Refusals.{numberOf};
-ghost use Rattle.host.specs.Said.{said, saidOf, saidGiven, storedOf, storedGiven, storedToken};
+ghost use Rattle.host.specs.Said.{said, saidOf, saidGiven, tokenSaid, storedOf, storedGiven, storedToken};
 use crate::Said;
 use crate::SaidToken;
 use crate::Stored;
@@ -11,6 +11,7 @@ use arena::Outcome;
 use arena::Refusal;
 use calls::Allocation;
 use calls::Given;
+use calls::Token;
 use calls::TokenAllocation;
 
 pub fn number_of(r: Refusal) -> usize
@@ -61,6 +62,18 @@ pub fn said_given(answer: Given) -> Said
     }
 }
 
+pub fn said_token(answer: Given, token: Token) -> SaidToken
+    ensures { λ r. ⌜ r ≡ tokenSaid answer token ⌝ }
+{
+    let said = said_given(answer);
+    SaidToken {
+        refusal: said.refusal,
+        offset: said.offset,
+        count: token.count,
+        pointer: token.pointer,
+    }
+}
+
 pub fn stored(got: Outcome) -> Stored
     ensures { λ r. ⌜ r ≡ storedOf got ⌝ }
 {
@@ -87,15 +100,10 @@ pub fn stored_token(got: TokenAllocation) -> StoredToken
     ensures { λ r. ⌜ r ≡ storedToken got ⌝ }
 {
     let answer = got.answer;
+    let token = got.token;
     let arena = got.arena;
-    let said = said_given(answer);
     StoredToken {
-        said: SaidToken {
-            refusal: said.refusal,
-            offset: said.offset,
-            count: got.token.count,
-            pointer: got.token.pointer,
-        },
+        said: said_token(answer, token),
         arena: arena,
     }
 }

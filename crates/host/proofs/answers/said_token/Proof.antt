@@ -1,9 +1,9 @@
--- `fast::token::said_token` meets its contract. Assumes nothing.
+-- `host::answers::said_token` meets its contract: the answer is said, and the token's numbers stay. Assumes nothing.
 use mathlib.Core.Path.{ap}
-use Rattle.host.specs.declared.Said.{Said}
 use borrow.Author.Needs.{needs}
-use Rattle.fast.proofs.token.said_token.Statement.{statement}
-use Rattle.fast.proofs.token.said_token.Tie as tie
+use Rattle.host.specs.declared.Said.{Said}
+use Rattle.host.proofs.answers.said_token.Statement.{statement}
+use Rattle.host.proofs.answers.said_token.Tie as tie
 
 said-given-requires : tie.Need-said-given-requires
 said-given-requires c κs = search needs
@@ -14,8 +14,4 @@ returns c =
     (c .said-given .ensures)
 
 pub said-token-spec : {M : Type 1} → statement M
-said-token-spec =
-    tie.close
-    (tie.spec
-    said-given-requires
-    returns)
+said-token-spec = tie.close (tie.spec said-given-requires returns)
