@@ -9,6 +9,7 @@ pub mod Reading
 pub mod Recording
 pub mod Resizing
 pub mod Saying
+pub mod Shown
 pub mod Stepping
 pub mod Three
 pub mod Walking

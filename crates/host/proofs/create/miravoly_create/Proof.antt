@@ -1,5 +1,6 @@
 -- `host::create::miravoly_create` meets its contract, by the walk of `New.antt`. Assumes nothing.
 use Prim.Native.Nat.{ℕ}
+use mathlib.Core.Path.{refl}
 use contract.Running.{givenOf, tables, tablesOf}
 use denote.Triple.Spec.{tripleOf}
 use denote.Triple.Table.{entered, cited}
@@ -7,6 +8,7 @@ use Rattle.arena.specs.Creation.{createdOf}
 use Rattle.host.specs.declared.Stored.{Stored}
 use Rattle.host.specs.Said.{storedOf}
 use Rattle.host.proofs.New as new
+use Rattle.host.proofs.Shown.{Same}
 use Rattle.host.proofs.create.create_by_value.Symbol as callee-def
 use Rattle.host.proofs.create.create_by_value.Symbol.{name as #host·create·create-by-value}
 use Rattle.host.proofs.create.create_by_value.Met as callee-thm
@@ -18,6 +20,11 @@ use Rattle.host.proofs.create.miravoly_create.Code as code
 -- what the call by value comes to
 abbrev says-of : ℕ → ℕ → ℕ → Stored
 says-of region minimum capacity = storedOf (createdOf region minimum capacity)
+
+-- the contract ensures what the walk shows
+shown : {M : Type 1} → Same M entry.ended (λ 𝓤 H 𝓜 𝓖 𝓡. entry.clauses 𝓤 H (𝓖 .A) (𝓜 .mem) (𝓡 .run)) (λ 𝓤 H 𝓜 𝓖 𝓡. new.entry-says #host·create·create-by-value says-of 𝓤 H (𝓖 .A))
+unfolding storedOf
+shown 𝓤 H 𝓜 𝓖 𝓡 κs a g g′ r e = refl
 
 pub miravoly-create-spec : {M : Type 1} → stated.statement M
 unfolding code.routine tablesOf storedOf

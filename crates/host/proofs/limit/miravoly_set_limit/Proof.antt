@@ -1,5 +1,6 @@
 -- `host::limit::miravoly_set_limit` meets its contract, by the walk of `One.antt`. Assumes nothing.
 use Prim.Native.Nat.{ℕ}
+use mathlib.Core.Path.{refl}
 use contract.Running.{givenOf, tables, tablesOf}
 use denote.Triple.Spec.{tripleOf}
 use denote.Triple.Table.{entered, cited}
@@ -8,6 +9,7 @@ use Rattle.arena.specs.Creation.{setLimitOf}
 use Rattle.host.specs.declared.Stored.{Stored}
 use Rattle.host.specs.Said.{storedOf}
 use Rattle.host.proofs.One as one
+use Rattle.host.proofs.Shown.{Same}
 use Rattle.host.proofs.limit.set_limit_by_value.Symbol as callee-def
 use Rattle.host.proofs.limit.set_limit_by_value.Symbol.{name as #host·limit·set-limit-by-value}
 use Rattle.host.proofs.limit.set_limit_by_value.Met as callee-thm
@@ -19,6 +21,11 @@ use Rattle.host.proofs.limit.miravoly_set_limit.Code as code
 -- what the call by value comes to
 abbrev says-of : Arena → ℕ → Stored
 says-of a limit = storedOf (setLimitOf a limit)
+
+-- the contract ensures what the walk shows
+shown : {M : Type 1} → Same M entry.ended (λ 𝓤 H 𝓜 𝓖 𝓡. entry.clauses 𝓤 H (𝓖 .A) (𝓜 .mem) (𝓡 .run)) (λ 𝓤 H 𝓜 𝓖 𝓡. one.entry-says #host·limit·set-limit-by-value says-of 𝓤 H (𝓖 .A))
+unfolding storedOf
+shown 𝓤 H 𝓜 𝓖 𝓡 κs a g g′ r e = refl
 
 pub miravoly-set-limit-spec : {M : Type 1} → stated.statement M
 unfolding code.routine tablesOf storedOf

@@ -1,6 +1,7 @@
 -- `host::resize::miravoly_resize` meets its contract, by the walk of `Resizing.antt`. Assumes nothing.
 use Prim.Native.Nat.{ℕ}
 use mathlib.Core.List.{List}
+use mathlib.Core.Path.{refl}
 use lib.ListN.{length}
 use contract.Running.{givenOf, tables, tablesOf}
 use denote.Triple.Spec.{tripleOf}
@@ -10,6 +11,7 @@ use Rattle.calls.specs.Resize.{resizeOf, resizeBytes}
 use Rattle.host.specs.declared.Stored.{Stored}
 use Rattle.host.specs.Said.{storedGiven}
 use Rattle.host.proofs.Resizing as resizing
+use Rattle.host.proofs.Shown.{Same}
 use Rattle.host.proofs.resize.resize_by_value.Symbol as callee-def
 use Rattle.host.proofs.resize.resize_by_value.Symbol.{name as #host·resize·resize-by-value}
 use Rattle.host.proofs.resize.resize_by_value.Met as callee-thm
@@ -24,6 +26,11 @@ says-of a bytes offset old align new = storedGiven (resizeOf a (length bytes) of
 
 abbrev bytes-of : Arena → List ℕ → ℕ → ℕ → ℕ → ℕ → List ℕ
 bytes-of a bytes offset old align new = resizeBytes a bytes offset old align new
+
+-- the contract ensures what the walk shows
+shown : {M : Type 1} → Same M entry.ended (λ 𝓤 H 𝓜 𝓖 𝓡. entry.clauses 𝓤 H (𝓖 .A) (𝓜 .mem) (𝓡 .run)) (λ 𝓤 H 𝓜 𝓖 𝓡. resizing.entry-says #host·resize·resize-by-value says-of bytes-of 𝓤 H (𝓖 .A))
+unfolding storedGiven
+shown 𝓤 H 𝓜 𝓖 𝓡 κs a g g′ r e = refl
 
 pub miravoly-resize-spec : {M : Type 1} → stated.statement M
 unfolding code.routine tablesOf storedGiven

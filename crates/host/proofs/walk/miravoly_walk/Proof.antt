@@ -1,6 +1,7 @@
 -- `host::walk::miravoly_walk` meets its contract, by the walk of `Stepping.antt`. Assumes nothing.
 use Prim.Native.Nat.{ℕ}
 use mathlib.Core.List.{List}
+use mathlib.Core.Path.{refl}
 use lib.ListN.{length}
 use contract.Running.{givenOf, tables, tablesOf}
 use denote.Triple.Spec.{tripleOf}
@@ -8,6 +9,7 @@ use denote.Triple.Table.{entered, cited}
 use Rattle.arena.specs.declared.Arena.{Arena}
 use Rattle.host.specs.Walk.{stepOf}
 use Rattle.host.specs.declared.SaidStep.{SaidStep}
+use Rattle.host.proofs.Shown.{Same}
 use Rattle.host.proofs.Stepping as stepping
 use Rattle.host.proofs.walk.walk_by_value.Symbol as callee-def
 use Rattle.host.proofs.walk.walk_by_value.Symbol.{name as #host·walk·walk-by-value}
@@ -20,6 +22,10 @@ use Rattle.host.proofs.walk.miravoly_walk.Code as code
 -- what the call by value comes to
 abbrev says-of : Arena → List ℕ → ℕ → SaidStep
 says-of a bytes index = stepOf a (length bytes) index
+
+-- the contract ensures what the walk shows
+shown : {M : Type 1} → Same M entry.ended (λ 𝓤 H 𝓜 𝓖 𝓡. entry.clauses 𝓤 H (𝓖 .A) (𝓜 .mem) (𝓡 .run)) (λ 𝓤 H 𝓜 𝓖 𝓡. stepping.entry-says #host·walk·walk-by-value says-of 𝓤 H (𝓖 .A))
+shown 𝓤 H 𝓜 𝓖 𝓡 κs a g g′ r e = refl
 
 pub miravoly-walk-spec : {M : Type 1} → stated.statement M
 unfolding code.routine tablesOf

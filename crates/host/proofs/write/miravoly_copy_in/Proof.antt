@@ -1,6 +1,7 @@
 -- `host::write::miravoly_copy_in` meets its contract, by the walk of `Copying.antt`. Assumes nothing.
 use Prim.Native.Nat.{ℕ}
 use mathlib.Core.List.{List}
+use mathlib.Core.Path.{refl}
 use lib.ListN.{length}
 use contract.Running.{givenOf, tables, tablesOf}
 use denote.Triple.Spec.{tripleOf}
@@ -11,6 +12,7 @@ use Rattle.calls.specs.Write.{copyInBytes}
 use Rattle.host.specs.declared.Stored.{Stored}
 use Rattle.host.specs.Said.{storedGiven}
 use Rattle.host.proofs.Copying as copying
+use Rattle.host.proofs.Shown.{Same}
 use Rattle.host.proofs.write.copy_in_by_value.Symbol as callee-def
 use Rattle.host.proofs.write.copy_in_by_value.Symbol.{name as #host·write·copy-in-by-value}
 use Rattle.host.proofs.write.copy_in_by_value.Met as callee-thm
@@ -25,6 +27,11 @@ says-of a bytes source align = storedGiven (allocateOf a (length bytes) (length 
 
 abbrev bytes-of : Arena → List ℕ → List ℕ → ℕ → List ℕ
 bytes-of a bytes source align = copyInBytes a bytes source align
+
+-- the contract ensures what the walk shows
+shown : {M : Type 1} → Same M entry.ended (λ 𝓤 H 𝓜 𝓖 𝓡. entry.clauses 𝓤 H (𝓖 .A) (𝓜 .mem) (𝓡 .run)) (λ 𝓤 H 𝓜 𝓖 𝓡. copying.entry-says #host·write·copy-in-by-value says-of bytes-of 𝓤 H (𝓖 .A))
+unfolding storedGiven
+shown 𝓤 H 𝓜 𝓖 𝓡 κs a g g′ r e = refl
 
 pub miravoly-copy-in-spec : {M : Type 1} → stated.statement M
 unfolding code.routine tablesOf storedGiven

@@ -1,6 +1,7 @@
 -- `host::write::miravoly_fill` meets its contract, by the walk of `Filling.antt`. Assumes nothing.
 use Prim.Native.Nat.{ℕ}
 use mathlib.Core.List.{List}
+use mathlib.Core.Path.{refl}
 use lib.ListN.{length}
 use contract.Running.{givenOf, tables, tablesOf}
 use denote.Triple.Spec.{tripleOf}
@@ -11,6 +12,7 @@ use Rattle.calls.specs.Write.{fillBytes}
 use Rattle.host.specs.declared.Stored.{Stored}
 use Rattle.host.specs.Said.{storedGiven}
 use Rattle.host.proofs.Filling as filling
+use Rattle.host.proofs.Shown.{Same}
 use Rattle.host.proofs.write.fill_by_value.Symbol as callee-def
 use Rattle.host.proofs.write.fill_by_value.Symbol.{name as #host·write·fill-by-value}
 use Rattle.host.proofs.write.fill_by_value.Met as callee-thm
@@ -25,6 +27,11 @@ says-of a bytes size align value = storedGiven (allocateOf a (length bytes) size
 
 abbrev bytes-of : Arena → List ℕ → ℕ → ℕ → ℕ → List ℕ
 bytes-of a bytes size align value = fillBytes a bytes size align value
+
+-- the contract ensures what the walk shows
+shown : {M : Type 1} → Same M entry.ended (λ 𝓤 H 𝓜 𝓖 𝓡. entry.clauses 𝓤 H (𝓖 .A) (𝓜 .mem) (𝓡 .run)) (λ 𝓤 H 𝓜 𝓖 𝓡. filling.entry-says #host·write·fill-by-value says-of bytes-of 𝓤 H (𝓖 .A))
+unfolding storedGiven
+shown 𝓤 H 𝓜 𝓖 𝓡 κs a g g′ r e = refl
 
 pub miravoly-fill-spec : {M : Type 1} → stated.statement M
 unfolding code.routine tablesOf storedGiven
