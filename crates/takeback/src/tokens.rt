@@ -116,7 +116,7 @@ pub fn allocate_with_token(a: Arena, region: &[u8], size: usize, align: usize) -
 }
 
 // With a smaller count the chunk was taken for the block, and the recorded pointer is not looked at.
-fn is_bad_token<'a>(
+pub fn is_bad_token<'a>(
     h: Head,
     starts: &'a [usize; 32],
     sizes: &'a [usize; 32],
