@@ -10,7 +10,6 @@ ghost use Rattle.calls.specs.Inner.{EndedBy, ChangedBy};
 use crate::Ended;
 use crate::block::is_at_pointer;
 use crate::refusals::block_answer;
-use crate::settle::finished;
 use crate::settle::unended;
 use arena::Answer;
 use arena::Arena;
@@ -18,6 +17,7 @@ use arena::Head;
 use arena::Outcome;
 use arena::Refusal;
 use arena::change::Change;
+use arena::change::make;
 use arena::sound::is_sound;
 
 // The record goes back as it came.
@@ -75,17 +75,22 @@ pub fn free_ended<'a>(
 pub fn free(a: Arena, offset: usize, size: usize, align: usize) -> Outcome
     ensures { λ r. ⌜ r ≡ freeOf a offset size align ⌝ }
 {
-    if !is_sound(a.head, &a.starts, &a.sizes, &a.pointers) {
+    let head = a.head;
+    let mut starts = a.starts;
+    let mut sizes = a.sizes;
+    let mut pointers = a.pointers;
+    if !is_sound(head, &starts, &sizes, &pointers) {
         return refused(a, Refusal::State);
     }
-    let ended = free_ended(
-        a.head,
-        &a.starts,
-        &a.sizes,
-        &a.pointers,
-        offset,
-        size,
-        align,
-    );
-    finished(a, ended)
+    let ended = free_ended(head, &starts, &sizes, &pointers, offset, size, align);
+    let answer = ended.answer;
+    let change = ended.change;
+    let head = make(head, &mut starts, &mut sizes, &mut pointers, change);
+    let arena = Arena {
+        head,
+        starts,
+        sizes,
+        pointers,
+    };
+    Outcome { answer, arena }
 }

@@ -8,6 +8,10 @@ use borrow.Author.Needs.{needs}
 use Rattle.calls.proofs.free.free.Statement.{statement}
 use Rattle.calls.proofs.free.free.Tie as tie
 
+-- where the function begins, from the answer of the test
+abbrev start : tie.After-is-sound → tie.Start
+start t = t .before .before .before .before .before .before .before .before
+
 is-sound-requires : tie.Need-is-sound-requires
 is-sound-requires c κs = search needs
 
@@ -17,22 +21,24 @@ refused-requires c κs = search needs
 returns : tie.Need-returns
 returns c =
     let t = c .before .before in
-    let s = t .before .before .before .before .before .before in
+    let s = start t in
     c .refused .ensures
-    ∙ sym (free-state (s .args .t1) (s .args .offset) (s .args .size) (s .args .align) (taken-false (t .is-sound .ensures) (c .before .if1 .taken)))
+    ∙ sym (free-state (s .args .a) (s .args .offset) (s .args .size) (s .args .align) (taken-false (t .is-sound .ensures) (c .before .if1 .taken)))
 
 -- past the test the record is sound
-sound : (c : tie.Else1) → soundOf (c .before .before .before .before .before .before .before .args .t1) ≡ true
+sound : (c : tie.Else1) → soundOf (start (c .before) .args .a) ≡ true
 sound c = left-true (c .before .is-sound .ensures) (c .if1 .left)
 
 free-ended-requires : tie.Need-free-ended-requires
-free-ended-requires c κs = sound (c .before .before .before .before .before)
+free-ended-requires c κs = sound (c .before .before .before)
 
-finished-requires : tie.Need-finished-requires
-finished-requires c κs = sound (c .before .before .before .before .before .before)
+make-requires : tie.Need-make-requires
+make-requires c κs = sound (c .before .before .before .before .before .before .before)
 
 returns-2 : tie.Need-returns-2
-returns-2 c = c .finished .ensures ∙ c .before .free-ended .ensures
+returns-2 c =
+    let f = c .before .before .before .before in
+    (λ i. record { answer = f .free-ended .result .answer; arena = c .make .ensures i }) ∙ f .free-ended .ensures
 
 pub free-spec : {M : Type 1} → statement M
-free-spec = tie.close (tie.spec is-sound-requires refused-requires returns free-ended-requires finished-requires returns-2)
+free-spec = tie.close (tie.spec is-sound-requires refused-requires returns free-ended-requires make-requires returns-2)
