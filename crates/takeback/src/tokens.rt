@@ -16,6 +16,7 @@ use arena::Head;
 use arena::Outcome;
 use arena::Refusal;
 use arena::change::Change;
+use arena::change::make;
 use arena::sound::is_sound;
 use arena::table::chunk_at;
 use calls::Ended;
@@ -24,8 +25,6 @@ use calls::Token;
 use calls::TokenAllocation;
 use calls::TokenPlaced;
 use calls::allocate::allocate_placed;
-use calls::settle::finished;
-use calls::settle::settled_with_token;
 use calls::settle::unended;
 
 fn token_for<'a>(
@@ -105,14 +104,32 @@ fn refused_token(a: Arena, r: Refusal) -> TokenAllocation
 pub fn allocate_with_token(a: Arena, region: &[u8], size: usize, align: usize) -> TokenAllocation
     ensures { λ r. ⌜ r ≡ withTokenOf a (length (now (region .entry))) size align ⌝ }
 {
-    if !is_sound(a.head, &a.starts, &a.sizes, &a.pointers) {
+    let head = a.head;
+    let mut starts = a.starts;
+    let mut sizes = a.sizes;
+    let mut pointers = a.pointers;
+    if !is_sound(head, &starts, &sizes, &pointers) {
         return refused_token(a, Refusal::State);
     }
-    if region.len() != a.head.region {
+    if region.len() != head.region {
         return refused_token(a, Refusal::Region);
     }
-    let placed = allocate_with_token_placed(a.head, &a.starts, &a.sizes, &a.pointers, size, align);
-    settled_with_token(a, placed)
+    let placed = allocate_with_token_placed(head, &starts, &sizes, &pointers, size, align);
+    let answer = placed.answer;
+    let token = placed.token;
+    let change = placed.change;
+    let head = make(head, &mut starts, &mut sizes, &mut pointers, change);
+    let arena = Arena {
+        head,
+        starts,
+        sizes,
+        pointers,
+    };
+    TokenAllocation {
+        answer,
+        token,
+        arena,
+    }
 }
 
 // With a smaller count the chunk was taken for the block, and the recorded pointer is not looked at.
@@ -201,12 +218,25 @@ pub fn cancel_ended<'a>(
 pub fn cancel(a: Arena, offset: usize, token: Token) -> Outcome
     ensures { λ r. ⌜ r ≡ cancelOf a offset token ⌝ }
 {
-    if !is_sound(a.head, &a.starts, &a.sizes, &a.pointers) {
+    let head = a.head;
+    let mut starts = a.starts;
+    let mut sizes = a.sizes;
+    let mut pointers = a.pointers;
+    if !is_sound(head, &starts, &sizes, &pointers) {
         return Outcome {
             answer: Answer::Refused(Refusal::State),
             arena: a,
         };
     }
-    let ended = cancel_ended(a.head, &a.starts, &a.sizes, &a.pointers, offset, token);
-    finished(a, ended)
+    let ended = cancel_ended(head, &starts, &sizes, &pointers, offset, token);
+    let answer = ended.answer;
+    let change = ended.change;
+    let head = make(head, &mut starts, &mut sizes, &mut pointers, change);
+    let arena = Arena {
+        head,
+        starts,
+        sizes,
+        pointers,
+    };
+    Outcome { answer, arena }
 }
