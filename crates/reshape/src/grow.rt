@@ -12,6 +12,7 @@ use arena::Answer;
 use arena::Arena;
 use arena::Head;
 use arena::change::Change;
+use arena::change::make;
 use calls::Allocation;
 use calls::Given;
 use calls::Placed;
@@ -26,7 +27,6 @@ use calls::fast::current_gives;
 use calls::refusals::change_answer;
 use calls::refusals::lent_answer;
 use calls::settle::nowhere;
-use calls::settle::settled;
 
 // The block at the current pointer grows downwards: the bytes that it lacks are asked of the current chunk, and it starts where they start.
 //
@@ -250,20 +250,18 @@ pub fn grow(
     ensures { λ r. ⌜ r ≡ growOf a (length (now (region .entry))) offset old «old_align» new «new_align» ⌝ }
     ensures { λ r. ⌜ now (region .exit) ≡ growBytes a (now (region .entry)) offset old «old_align» new «new_align» ⌝ }
 {
-    if let Answer::Refused(r) = lent_answer(
-        a.head,
-        &a.starts,
-        &a.sizes,
-        &a.pointers,
-        region.len(),
-    ) {
+    let head = a.head;
+    let mut starts = a.starts;
+    let mut sizes = a.sizes;
+    let mut pointers = a.pointers;
+    if let Answer::Refused(r) = lent_answer(head, &starts, &sizes, &pointers, region.len()) {
         return refused(a, r);
     }
-    let placed = grow_in_full(
-        a.head,
-        &a.starts,
-        &a.sizes,
-        &a.pointers,
+    let placed = grow_placed(
+        head,
+        &starts,
+        &sizes,
+        &pointers,
         region,
         offset,
         old,
@@ -271,7 +269,16 @@ pub fn grow(
         new,
         new_align,
     );
-    settled(a, placed)
+    let answer = placed.answer;
+    let change = placed.change;
+    let head = make(head, &mut starts, &mut sizes, &mut pointers, change);
+    let arena = Arena {
+        head,
+        starts,
+        sizes,
+        pointers,
+    };
+    Allocation { answer, arena }
 }
 
 // The bytes after the old ones are cleared.
@@ -287,8 +294,35 @@ pub fn grow_zeroed(
     ensures { λ r. ⌜ r ≡ growOf a (length (now (region .entry))) offset old «old_align» new «new_align» ⌝ }
     ensures { λ r. ⌜ now (region .exit) ≡ growZeroedBytes a (now (region .entry)) offset old «old_align» new «new_align» ⌝ }
 {
-    let got = grow(a, region, offset, old, old_align, new, new_align);
-    let answer = got.answer;
+    let head = a.head;
+    let mut starts = a.starts;
+    let mut sizes = a.sizes;
+    let mut pointers = a.pointers;
+    if let Answer::Refused(r) = lent_answer(head, &starts, &sizes, &pointers, region.len()) {
+        return refused(a, r);
+    }
+    let placed = grow_placed(
+        head,
+        &starts,
+        &sizes,
+        &pointers,
+        region,
+        offset,
+        old,
+        old_align,
+        new,
+        new_align,
+    );
+    let answer = placed.answer;
+    let change = placed.change;
+    let head = make(head, &mut starts, &mut sizes, &mut pointers, change);
+    let arena = Arena {
+        head,
+        starts,
+        sizes,
+        pointers,
+    };
+    let got = Allocation { answer, arena };
     let Given::At(to) = answer else {
         return got;
     };

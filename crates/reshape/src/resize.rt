@@ -14,6 +14,7 @@ use crate::shrink::shrunk_block;
 use arena::Answer;
 use arena::Arena;
 use arena::Head;
+use arena::change::make;
 use calls::Allocation;
 use calls::Given;
 use calls::Placed;
@@ -23,7 +24,6 @@ use calls::bytes::carry;
 use calls::refusals::change_answer;
 use calls::refusals::lent_answer;
 use calls::settle::nowhere;
-use calls::settle::settled;
 
 fn smaller(a: usize, b: usize) -> usize
     ensures { λ r. ⌜ r ≡ min a b ⌝ }
@@ -105,25 +105,32 @@ pub fn resize(
     ensures { λ r. ⌜ r ≡ resizeOf a (length (now (region .entry))) offset old align new ⌝ }
     ensures { λ r. ⌜ now (region .exit) ≡ resizeBytes a (now (region .entry)) offset old align new ⌝ }
 {
-    if let Answer::Refused(r) = lent_answer(
-        a.head,
-        &a.starts,
-        &a.sizes,
-        &a.pointers,
-        region.len(),
-    ) {
+    let head = a.head;
+    let mut starts = a.starts;
+    let mut sizes = a.sizes;
+    let mut pointers = a.pointers;
+    if let Answer::Refused(r) = lent_answer(head, &starts, &sizes, &pointers, region.len()) {
         return refused(a, r);
     }
     let placed = resize_placed(
-        a.head,
-        &a.starts,
-        &a.sizes,
-        &a.pointers,
+        head,
+        &starts,
+        &sizes,
+        &pointers,
         region,
         offset,
         old,
         align,
         new,
     );
-    settled(a, placed)
+    let answer = placed.answer;
+    let change = placed.change;
+    let head = make(head, &mut starts, &mut sizes, &mut pointers, change);
+    let arena = Arena {
+        head,
+        starts,
+        sizes,
+        pointers,
+    };
+    Allocation { answer, arena }
 }

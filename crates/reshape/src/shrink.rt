@@ -15,6 +15,7 @@ use arena::Answer;
 use arena::Arena;
 use arena::Head;
 use arena::change::Change;
+use arena::change::make;
 use arena::sizing::larger;
 use calls::Allocation;
 use calls::Given;
@@ -28,7 +29,6 @@ use calls::fast::Fast;
 use calls::refusals::change_answer;
 use calls::refusals::lent_answer;
 use calls::settle::nowhere;
-use calls::settle::settled;
 
 // The block keeps its offset, and the record stays as it is.
 fn stay(offset: usize) -> Placed
@@ -245,20 +245,18 @@ pub fn shrink(
     ensures { λ r. ⌜ r ≡ shrinkOf a (length (now (region .entry))) offset old «old_align» new «new_align» ⌝ }
     ensures { λ r. ⌜ now (region .exit) ≡ shrinkBytes a (now (region .entry)) offset old «old_align» new «new_align» ⌝ }
 {
-    if let Answer::Refused(r) = lent_answer(
-        a.head,
-        &a.starts,
-        &a.sizes,
-        &a.pointers,
-        region.len(),
-    ) {
+    let head = a.head;
+    let mut starts = a.starts;
+    let mut sizes = a.sizes;
+    let mut pointers = a.pointers;
+    if let Answer::Refused(r) = lent_answer(head, &starts, &sizes, &pointers, region.len()) {
         return refused(a, r);
     }
-    let placed = shrink_in_full(
-        a.head,
-        &a.starts,
-        &a.sizes,
-        &a.pointers,
+    let placed = shrink_placed(
+        head,
+        &starts,
+        &sizes,
+        &pointers,
         region,
         offset,
         old,
@@ -266,5 +264,14 @@ pub fn shrink(
         new,
         new_align,
     );
-    settled(a, placed)
+    let answer = placed.answer;
+    let change = placed.change;
+    let head = make(head, &mut starts, &mut sizes, &mut pointers, change);
+    let arena = Arena {
+        head,
+        starts,
+        sizes,
+        pointers,
+    };
+    Allocation { answer, arena }
 }

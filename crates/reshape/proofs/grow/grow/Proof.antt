@@ -4,23 +4,21 @@ use Prim.Native.Nat.{ℕ}
 use mathlib.Core.Bool.{true}
 use mathlib.Core.Path.{_≡_, sym, _∙_, ap}
 use Rattle.arena.specs.Sound.{soundOf}
-use lib.Dec.{ltb}
 use lib.ListN.{length}
-use Rattle.arena.specs.Record.{heldOf}
 use Rattle.calls.specs.declared.Allocation.{Allocation}
 use Rattle.calls.specs.Allocate.{given}
 use Rattle.calls.specs.Bytes.{carried, afterGiven}
-use Rattle.calls.specs.Grow.{growIn, growOf, growBytes}
-use Rattle.calls.specs.Inner.{lentTests, changeTests}
-use Rattle.calls.proofs.Answering.{stopped-first, bytes-shown}
+use Rattle.calls.specs.Grow.{growOf, growBytes}
+use Rattle.calls.proofs.Answering.{bytes-shown}
 use Rattle.calls.proofs.Testing.{tests-refuse, tests-pass, lent-passes}
 use borrow.Author.Needs.{needs}
+use Rattle.reshape.proofs.Stopping.{grow-stopped}
 use Rattle.reshape.proofs.grow.grow.Statement.{statement}
 use Rattle.reshape.proofs.grow.grow.Tie as tie
 
 -- where the function begins, from the answer of the tests
 abbrev start : tie.After-lent-answer → tie.Start
-start t = t .before .before .before .before .before .before .before
+start t = t .before .before .before .before .before .before .before .before .before
 
 lent-answer-requires : tie.Need-lent-answer-requires
 lent-answer-requires c κs = search needs
@@ -33,15 +31,13 @@ refused-requires c κs = search needs
 
 stopped : (c : tie.After-refused) →
     let s = start (c .before .before .before .before) .args in
-    c .refused .result ≡ growOf (s .t1) (length (s .region .now)) (s .offset) (s .old) (s .old-align) (s .new) (s .new-align)
-unfolding growOf
+    c .refused .result ≡ growOf (s .a) (length (s .region .now)) (s .offset) (s .old) (s .old-align) (s .new) (s .new-align)
 stopped c =
     let t = c .before .before .before .before in
     let s = start t .args in
     c .refused .ensures
     ∙ sym
-    (stopped-first (s .t1) (lentTests (s .t1) (length (s .region .now))) (changeTests (s .t1) (s .offset) (s .old) (s .old-align) (s .new) (s .new-align) (ltb (s .new) (s .old)))
-    (growIn (s .t1 .head) (heldOf (s .t1)) (s .offset) (s .old) (s .old-align) (s .new) (s .new-align))
+    (grow-stopped (s .a) (length (s .region .now)) (s .offset) (s .old) (s .old-align) (s .new) (s .new-align)
     (tests-refuse _ (sym (c .before .before .r .given .1) ∙ t .lent-answer .ensures)))
 
 returns : tie.Need-returns
@@ -58,26 +54,26 @@ enum-told c = search needs
 -- past the tests the record is sound, and it is lent its own region
 lent : (c : tie.After-enum-told) →
     let s = start (c .before .before) .args in
-    (soundOf (s .t1) ≡ true) × (length (s .region .now) ≡ s .t1 .head .region)
+    (soundOf (s .a) ≡ true) × (length (s .region .now) ≡ s .a .head .region)
 lent c =
     let t = c .before .before in
     let s = start t .args in
-    let passed = lent-passes (s .t1) (length (s .region .now)) (tests-pass _ (sym (c .enum-told .given .1) ∙ t .lent-answer .ensures)) in
+    let passed = lent-passes (s .a) (length (s .region .now)) (tests-pass _ (sym (c .enum-told .given .1) ∙ t .lent-answer .ensures)) in
     (passed .sound, passed .whole)
 
-grow-in-full-requires : tie.Need-grow-in-full-requires
-grow-in-full-requires c κs = lent (c .before .before .before .before .before .before)
+grow-placed-requires : tie.Need-grow-placed-requires
+grow-placed-requires c κs = lent (c .before .before .before .before)
 
-settled-requires : tie.Need-settled-requires
-settled-requires c κs = lent (c .before .before .before .before .before .before .before .before .before) .0
+make-requires : tie.Need-make-requires
+make-requires c κs = lent (c .before .before .before .before .before .before .before .before .before .before) .0
 
 same-length : tie.Need-same-length
 same-length c = search needs
 
 returns-2 : tie.Need-returns-2
 returns-2 c =
-    let placed = c .before .before .before .grow-in-full .ensures in
-    (c .settled .ensures ∙ placed .0, placed .1)
+    let p = c .before .before .before .before .before .before in
+    ((λ i. record { answer = p .grow-placed .result .answer; arena = c .make .ensures i }) ∙ p .grow-placed .ensures .0, p .grow-placed .ensures .1)
 
 pub grow-spec : {M : Type 1} → statement M
 grow-spec =
@@ -88,7 +84,7 @@ grow-spec =
     refused-requires
     returns
     enum-told
-    grow-in-full-requires
-    settled-requires
+    grow-placed-requires
+    make-requires
     same-length
     returns-2)

@@ -20,7 +20,7 @@ use Rattle.reshape.proofs.resize.resize.Tie as tie
 
 -- where the function begins, from the answer of the tests
 abbrev start : tie.After-lent-answer → tie.Start
-start t = t .before .before .before .before .before .before .before
+start t = t .before .before .before .before .before .before .before .before .before
 
 lent-answer-requires : tie.Need-lent-answer-requires
 lent-answer-requires c κs = search needs
@@ -33,15 +33,15 @@ refused-requires c κs = search needs
 
 stopped : (c : tie.After-refused) →
     let s = start (c .before .before .before .before) .args in
-    c .refused .result ≡ resizeOf (s .t1) (length (s .region .now)) (s .offset) (s .old) (s .align) (s .new)
+    c .refused .result ≡ resizeOf (s .a) (length (s .region .now)) (s .offset) (s .old) (s .align) (s .new)
 unfolding resizeOf
 stopped c =
     let t = c .before .before .before .before in
     let s = start t .args in
     c .refused .ensures
     ∙ sym
-    (stopped-first (s .t1) (lentTests (s .t1) (length (s .region .now))) (resizeRest (s .t1) (s .offset) (s .old) (s .align) (s .new))
-    (resizeIn (s .t1 .head) (heldOf (s .t1)) (s .offset) (s .old) (s .align) (s .new))
+    (stopped-first (s .a) (lentTests (s .a) (length (s .region .now))) (resizeRest (s .a) (s .offset) (s .old) (s .align) (s .new))
+    (resizeIn (s .a .head) (heldOf (s .a)) (s .offset) (s .old) (s .align) (s .new))
     (tests-refuse _ (sym (c .before .before .r .given .1) ∙ t .lent-answer .ensures)))
 
 returns : tie.Need-returns
@@ -58,26 +58,26 @@ enum-told c = search needs
 -- past the tests the record is sound, and it is lent its own region
 lent : (c : tie.After-enum-told) →
     let s = start (c .before .before) .args in
-    (soundOf (s .t1) ≡ true) × (length (s .region .now) ≡ s .t1 .head .region)
+    (soundOf (s .a) ≡ true) × (length (s .region .now) ≡ s .a .head .region)
 lent c =
     let t = c .before .before in
     let s = start t .args in
-    let passed = lent-passes (s .t1) (length (s .region .now)) (tests-pass _ (sym (c .enum-told .given .1) ∙ t .lent-answer .ensures)) in
+    let passed = lent-passes (s .a) (length (s .region .now)) (tests-pass _ (sym (c .enum-told .given .1) ∙ t .lent-answer .ensures)) in
     (passed .sound, passed .whole)
 
 resize-placed-requires : tie.Need-resize-placed-requires
-resize-placed-requires c κs = lent (c .before .before .before .before .before .before)
+resize-placed-requires c κs = lent (c .before .before .before .before)
 
-settled-requires : tie.Need-settled-requires
-settled-requires c κs = lent (c .before .before .before .before .before .before .before .before .before) .0
+make-requires : tie.Need-make-requires
+make-requires c κs = lent (c .before .before .before .before .before .before .before .before .before .before) .0
 
 same-length : tie.Need-same-length
 same-length c = search needs
 
 returns-2 : tie.Need-returns-2
 returns-2 c =
-    let placed = c .before .before .before .resize-placed .ensures in
-    (c .settled .ensures ∙ placed .0, placed .1)
+    let p = c .before .before .before .before .before .before in
+    ((λ i. record { answer = p .resize-placed .result .answer; arena = c .make .ensures i }) ∙ p .resize-placed .ensures .0, p .resize-placed .ensures .1)
 
 pub resize-spec : {M : Type 1} → statement M
 resize-spec =
@@ -89,6 +89,6 @@ resize-spec =
     returns
     enum-told
     resize-placed-requires
-    settled-requires
+    make-requires
     same-length
     returns-2)

@@ -20,7 +20,7 @@ use Rattle.reshape.proofs.shrink.shrink.Tie as tie
 
 -- where the function begins, from the answer of the tests
 abbrev start : tie.After-lent-answer → tie.Start
-start t = t .before .before .before .before .before .before .before
+start t = t .before .before .before .before .before .before .before .before .before
 
 lent-answer-requires : tie.Need-lent-answer-requires
 lent-answer-requires c κs = search needs
@@ -33,15 +33,15 @@ refused-requires c κs = search needs
 
 stopped : (c : tie.After-refused) →
     let s = start (c .before .before .before .before) .args in
-    c .refused .result ≡ shrinkOf (s .t1) (length (s .region .now)) (s .offset) (s .old) (s .old-align) (s .new) (s .new-align)
+    c .refused .result ≡ shrinkOf (s .a) (length (s .region .now)) (s .offset) (s .old) (s .old-align) (s .new) (s .new-align)
 unfolding shrinkOf
 stopped c =
     let t = c .before .before .before .before in
     let s = start t .args in
     c .refused .ensures
     ∙ sym
-    (stopped-first (s .t1) (lentTests (s .t1) (length (s .region .now))) (changeTests (s .t1) (s .offset) (s .old) (s .old-align) (s .new) (s .new-align) (ltb (s .old) (s .new)))
-    (shrinkIn (s .t1 .head) (heldOf (s .t1)) (s .offset) (s .old) (s .old-align) (s .new) (s .new-align))
+    (stopped-first (s .a) (lentTests (s .a) (length (s .region .now))) (changeTests (s .a) (s .offset) (s .old) (s .old-align) (s .new) (s .new-align) (ltb (s .old) (s .new)))
+    (shrinkIn (s .a .head) (heldOf (s .a)) (s .offset) (s .old) (s .old-align) (s .new) (s .new-align))
     (tests-refuse _ (sym (c .before .before .r .given .1) ∙ t .lent-answer .ensures)))
 
 returns : tie.Need-returns
@@ -58,26 +58,26 @@ enum-told c = search needs
 -- past the tests the record is sound, and it is lent its own region
 lent : (c : tie.After-enum-told) →
     let s = start (c .before .before) .args in
-    (soundOf (s .t1) ≡ true) × (length (s .region .now) ≡ s .t1 .head .region)
+    (soundOf (s .a) ≡ true) × (length (s .region .now) ≡ s .a .head .region)
 lent c =
     let t = c .before .before in
     let s = start t .args in
-    let passed = lent-passes (s .t1) (length (s .region .now)) (tests-pass _ (sym (c .enum-told .given .1) ∙ t .lent-answer .ensures)) in
+    let passed = lent-passes (s .a) (length (s .region .now)) (tests-pass _ (sym (c .enum-told .given .1) ∙ t .lent-answer .ensures)) in
     (passed .sound, passed .whole)
 
-shrink-in-full-requires : tie.Need-shrink-in-full-requires
-shrink-in-full-requires c κs = lent (c .before .before .before .before .before .before)
+shrink-placed-requires : tie.Need-shrink-placed-requires
+shrink-placed-requires c κs = lent (c .before .before .before .before)
 
-settled-requires : tie.Need-settled-requires
-settled-requires c κs = lent (c .before .before .before .before .before .before .before .before .before) .0
+make-requires : tie.Need-make-requires
+make-requires c κs = lent (c .before .before .before .before .before .before .before .before .before .before) .0
 
 same-length : tie.Need-same-length
 same-length c = search needs
 
 returns-2 : tie.Need-returns-2
 returns-2 c =
-    let placed = c .before .before .before .shrink-in-full .ensures in
-    (c .settled .ensures ∙ placed .0, placed .1)
+    let p = c .before .before .before .before .before .before in
+    ((λ i. record { answer = p .shrink-placed .result .answer; arena = c .make .ensures i }) ∙ p .shrink-placed .ensures .0, p .shrink-placed .ensures .1)
 
 pub shrink-spec : {M : Type 1} → statement M
 shrink-spec =
@@ -88,7 +88,7 @@ shrink-spec =
     refused-requires
     returns
     enum-told
-    shrink-in-full-requires
-    settled-requires
+    shrink-placed-requires
+    make-requires
     same-length
     returns-2)
