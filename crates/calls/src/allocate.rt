@@ -14,7 +14,7 @@ use crate::Placed;
 use crate::fast::Fast;
 use crate::fast::chunk_gives;
 use crate::fast::current_gives;
-use crate::settle::nowhere;
+use crate::refusals::nowhere;
 use arena::Arena;
 use arena::Chunk;
 use arena::Head;

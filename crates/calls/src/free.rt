@@ -10,7 +10,7 @@ ghost use Rattle.calls.specs.Inner.{EndedBy, ChangedBy};
 use crate::Ended;
 use crate::block::is_at_pointer;
 use crate::refusals::block_answer;
-use crate::settle::unended;
+use crate::refusals::unended;
 use arena::Answer;
 use arena::Arena;
 use arena::Head;

@@ -7,7 +7,6 @@ pub mod fast;
 pub mod free;
 pub mod lend;
 pub mod refusals;
-pub mod settle;
 pub mod write;
 
 use arena::Answer;

@@ -1,15 +1,22 @@
 // The tests that calls share, in the order of the refusals' numbers. Each function answers the first refusal that applies, or that none does. They only read, so
-// the record is lent in parts.
+// the record is lent in parts. And what an inner form answers that refuses.
 ghost use mathlib.Core.Path.{_≡_};
 ghost use mathlib.Core.Bool.{true};
 ghost use Rattle.arena.specs.Record.{recordOf};
 ghost use Rattle.arena.specs.Sound.{soundOf};
+ghost use Rattle.arena.specs.declared.Answer.the-variants.{Refused as Refused·answer};
+ghost use Rattle.arena.specs.declared.change.Change.the-variants.{Same};
+ghost use Rattle.calls.specs.declared.Given.the-variants.{Refused};
 ghost use Rattle.calls.specs.Inner.{lentTests, blockTests, changeTests, firstOf};
+use crate::Ended;
+use crate::Given;
+use crate::Placed;
 use crate::block::is_acceptable;
 use arena::Answer;
 use arena::Arena;
 use arena::Head;
 use arena::Refusal;
+use arena::change::Change;
 use arena::sound::is_allowed_align;
 use arena::sound::is_sound;
 
@@ -92,4 +99,23 @@ pub fn change_answer<'a>(
         return Answer::Refused(Refusal::Direction);
     }
     Answer::Done
+}
+
+// No block, and the record stays as it is.
+pub fn nowhere(r: Refusal) -> Placed
+    ensures { λ out. ⌜ out ≡ record { answer = Refused r; change = Same } ⌝ }
+{
+    Placed {
+        answer: Given::Refused(r),
+        change: Change::Same,
+    }
+}
+
+pub fn unended(r: Refusal) -> Ended
+    ensures { λ out. ⌜ out ≡ record { answer = Refused·answer r; change = Same } ⌝ }
+{
+    Ended {
+        answer: Answer::Refused(r),
+        change: Change::Same,
+    }
 }

@@ -26,7 +26,7 @@ use calls::fast::Fast;
 use calls::fast::current_gives;
 use calls::refusals::change_answer;
 use calls::refusals::lent_answer;
-use calls::settle::nowhere;
+use calls::refusals::nowhere;
 
 // The block at the current pointer grows downwards: the bytes that it lacks are asked of the current chunk, and it starts where they start.
 //

@@ -23,7 +23,7 @@ use calls::allocate::refused;
 use calls::bytes::carry;
 use calls::refusals::change_answer;
 use calls::refusals::lent_answer;
-use calls::settle::nowhere;
+use calls::refusals::nowhere;
 
 fn smaller(a: usize, b: usize) -> usize
     ensures { λ r. ⌜ r ≡ min a b ⌝ }

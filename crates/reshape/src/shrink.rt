@@ -28,7 +28,7 @@ use calls::bytes::carry;
 use calls::fast::Fast;
 use calls::refusals::change_answer;
 use calls::refusals::lent_answer;
-use calls::settle::nowhere;
+use calls::refusals::nowhere;
 
 // The block keeps its offset, and the record stays as it is.
 fn stay(offset: usize) -> Placed

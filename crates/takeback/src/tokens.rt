@@ -25,7 +25,7 @@ use calls::Token;
 use calls::TokenAllocation;
 use calls::TokenPlaced;
 use calls::allocate::allocate_placed;
-use calls::settle::unended;
+use calls::refusals::unended;
 
 fn token_for<'a>(
     h: Head,
