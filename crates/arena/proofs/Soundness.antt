@@ -7,7 +7,7 @@ use mathlib.Core.Bool.{true, _&&_}
 use mathlib.Core.List.{List, [], _∷_}
 use mathlib.Core.Logic.{_⊎_, inl, inr}
 use mathlib.Core.Path.{_≡_, refl, sym, _∙_, ap}
-use lib.Dec.{leb, eqb, leb·zero}
+use lib.Dec.{leb, eqb}
 use lib.ListN.{length, getD, drop, replicate, length-drop, length-replicate}
 use lib.Seq.{getD-drop, ext-getD}
 use borrow.Author.Tests.{leb-true, le-leb, eqb-true, eq-eqb}
@@ -168,32 +168,30 @@ unfolding apart
 apart-shut [] h = refl
 apart-shut (c ∷ cs) h = and-both (every-shut (clear c) cs (every-map (clear-shut c) cs (h .0))) (apart-shut cs (h .1))
 
--- the first byte past the newest chunk and its 48, and 0 where there is no chunk
-unfoldable pub pastNewest : List Chunk → ℕ
-pastNewest [] = 0
-pastNewest (c ∷ cs) = pastOf c
+-- chunks that ascend are sound below any top that is as high, and apart: all that were taken before end at or below the start of the next
+pub ascending-sound : (region top minimum : ℕ) (cs : List Chunk) → top ≤ region → ascending top minimum cs ≡ true → Each (ChunkSound region minimum) cs
+unfolding ascending
+ascending-sound region top minimum [] l t = tt
+ascending-sound region top minimum (c ∷ cs) l t =
+    let this = chunk-open top minimum c (and-left _ _ t) in
+    let rest = and-right (chunkSound top minimum c) _ t in (
+      record {
+        start-multiple = this .start-multiple;
+        size-multiple = this .size-multiple;
+        inside = omega (arith, this .inside);
+        above-start = this .above-start;
+        below-end = this .below-end;
+        pointer-multiple = this .pointer-multiple;
+      },
+      ascending-sound region (c .start) minimum cs (omega (arith, this .inside)) rest,
+    )
 
-pub ascending-next : (c : Chunk) (cs : List Chunk) → ascending (c ∷ cs) ≡ (leb (pastNewest cs) (c .start) && ascending cs)
-unfolding ascending pastNewest
-ascending-next c [] = rw (leb·zero (c .start))
-ascending-next c (d ∷ cs) = refl
-
--- chunks that ascend are apart: all that were taken before end at or below the start of the next
-all-below : (top : ℕ) (cs : List Chunk) → ascending cs ≡ true → pastNewest cs ≤ top → Each (λ d. pastOf d ≤ top) cs
-unfolding pastNewest
-all-below top [] t l = tt
-all-below top (c ∷ cs) t l =
-    let both = rw ascending-next at t in
-    let here = leb-true (pastNewest cs) (c .start) (and-left _ _ both) in
-    (l, all-below top cs (and-right (leb (pastNewest cs) (c .start)) _ both) (omega arith))
-
-pub ascending-apart : (cs : List Chunk) → ascending cs ≡ true → Apart cs
-ascending-apart [] t = tt
-ascending-apart (c ∷ cs) t =
-    let both = rw ascending-next at t in
-    let rest = and-right (leb (pastNewest cs) (c .start)) _ both in
-    let below = all-below (c .start) cs rest (leb-true (pastNewest cs) (c .start) (and-left _ _ both)) in
-    (every-map (λ d. inr) cs below, ascending-apart cs rest)
+pub ascending-apart : (top minimum : ℕ) (cs : List Chunk) → ascending top minimum cs ≡ true → Apart cs
+unfolding ascending
+ascending-apart top minimum [] t = tt
+ascending-apart top minimum (c ∷ cs) t =
+    let rest = and-right (chunkSound top minimum c) _ t in
+    (every-map (λ d s. inr (s .inside)) cs (ascending-sound (c .start) (c .start) minimum cs (omega arith) rest), ascending-apart (c .start) minimum cs rest)
 
 -- a column's places from the count on are zero
 pub record Unused (count : ℕ) (column : List ℕ) : Type 0 where

@@ -15,8 +15,6 @@ use Rattle.arena.specs.declared.ladder.NewChunk.{NewChunk}
 use Rattle.arena.specs.declared.ladder.NewChunk.the-variants.{Taken, Nothing}
 use Rattle.arena.specs.declared.change.Change.{Change}
 use Rattle.arena.specs.declared.change.Change.the-variants.{Same, Moved, Added, Limited, Kept}
-use Rattle.arena.specs.declared.sound.Row.{Row}
-use Rattle.arena.specs.declared.sound.Row.the-variants.{Unsound, Ascending, Unordered}
 use Rattle.arena.specs.Numbers.{places, most}
 use Rattle.arena.specs.Record.{pastOf, withPointer, heldOf, holding}
 use Rattle.arena.specs.Sound.{chunkSound}
@@ -61,13 +59,7 @@ pub record Passed (cs : List Chunk) (align length from to : ℕ) : Type 0 where
   pub between : (x : ℕ) → align ∣ x → from ≤ x → x < to → every (misses x length) cs ≡ false
   pub stays : to ≡ from → every (misses from length) cs ≡ true
 
--- each chunk starts at or past the end of the one taken before it, with its 48
-unfoldable pub ascending : List Chunk → Bool
-ascending [] = true
-ascending (c ∷ []) = true
-ascending (c ∷ (d ∷ cs)) = leb (pastOf d) (c .start) && ascending (d ∷ cs)
-
--- what one pass over the held chunks finds
-unfoldable pub rowOf : ℕ → ℕ → List Chunk → Row
-rowOf region minimum cs =
-    cond (every (chunkSound region minimum) cs) (cond (ascending cs) Ascending Unordered) Unsound
+-- from the newest down, each chunk is sound below the start of the one taken after it
+unfoldable pub ascending : ℕ → ℕ → List Chunk → Bool
+ascending top minimum [] = true
+ascending top minimum (c ∷ cs) = chunkSound top minimum c && ascending (c .start) minimum cs

@@ -18,7 +18,7 @@ ghost use Rattle.arena.specs.Sound.{
   unusedZero,
   soundOf,
 };
-ghost use Rattle.arena.specs.Inner.{Ready, rowOf};
+ghost use Rattle.arena.specs.Inner.{Ready, ascending};
 use crate::Arena;
 use crate::Chunk;
 use crate::Head;
@@ -77,16 +77,16 @@ fn is_chunk_sound(region: usize, minimum: usize, c: Chunk) -> bool
         return false;
     }
     let room = region - Arena::FOOTER;
-    if !rounding::is_multiple(c.start, Arena::STEP) {
+    if room < c.size {
         return false;
     }
     if !rounding::is_multiple(c.size, Arena::STEP) {
         return false;
     }
-    if room < c.size {
+    if room - c.size < c.start {
         return false;
     }
-    if room - c.size < c.start {
+    if !rounding::is_multiple(c.start, Arena::STEP) {
         return false;
     }
     if c.pointer < c.start {
@@ -120,44 +120,51 @@ fn unused_bits<'a>(
     bits
 }
 
-// What one pass over the held chunks finds.
-pub enum Row {
-    Unsound,
-    Ascending,
-    Unordered,
-}
-
-// Chunks mostly ascend, each from past the one taken before it, and are then apart without a test of every pair. They need not after a reset, nor where
-// a large alignment left a gap that a later chunk was placed in.
-fn chunk_row<'a>(
+// Chunks mostly ascend, each from past the one taken before it. From the newest down, each is then sound below the start of the one after it, and they are
+// apart without a test of every pair. They need not ascend after a reset, nor where a large alignment left a gap that a later chunk was placed in.
+fn are_ascending<'a>(
     h: Head,
     starts: &'a [usize; 32],
     sizes: &'a [usize; 32],
     pointers: &'a [usize; 32],
-) -> Row
+) -> bool
     requires { ⌜ (oneBit (h .minimum) ≡ true) × (h .count ≤ places) ⌝ }
-    ensures { λ r. ⌜ r ≡ rowOf (h .region) (h .minimum) (chunksOf (now (starts .entry)) (now (sizes .entry)) (now (pointers .entry)) (h .count)) ⌝ }
+    ensures { λ r. ⌜ r ≡ ascending (h .region) (h .minimum) (chunksOf (now (starts .entry)) (now (sizes .entry)) (now (pointers .entry)) (h .count)) ⌝ }
+{
+    let minimum = h.minimum;
+    let mut top = h.region;
+    let mut left = h.count;
+    while 0 < left {
+        left -= 1;
+        let c = chunk_at(starts, sizes, pointers, left);
+        if !is_chunk_sound(top, minimum, c) {
+            return false;
+        }
+        top = c.start;
+    }
+    true
+}
+
+// Each by itself, in any order.
+fn are_chunks_sound<'a>(
+    h: Head,
+    starts: &'a [usize; 32],
+    sizes: &'a [usize; 32],
+    pointers: &'a [usize; 32],
+) -> bool
+    requires { ⌜ (oneBit (h .minimum) ≡ true) × (h .count ≤ places) ⌝ }
+    ensures { λ r. ⌜ r ≡ every (chunkSound (h .region) (h .minimum)) (chunksOf (now (starts .entry)) (now (sizes .entry)) (now (pointers .entry)) (h .count)) ⌝ }
 {
     let region = h.region;
     let minimum = h.minimum;
     let count = h.count;
-    let mut past = 0;
-    let mut ascending = true;
     for i in 0..count {
         let c = chunk_at(starts, sizes, pointers, i);
         if !is_chunk_sound(region, minimum, c) {
-            return Row::Unsound;
+            return false;
         }
-        if c.start < past {
-            ascending = false;
-        }
-        past = c.start + c.size + Arena::FOOTER;
     }
-    if ascending {
-        Row::Ascending
-    } else {
-        Row::Unordered
-    }
+    true
 }
 
 fn are_clear(c: Chunk, d: Chunk) -> bool
@@ -225,9 +232,11 @@ pub fn is_sound<'a>(
     if unused_bits(h.count, starts, sizes, pointers) != 0 {
         return false;
     }
-    match chunk_row(h, starts, sizes, pointers) {
-        Row::Unsound => false,
-        Row::Ascending => true,
-        Row::Unordered => are_apart(h, starts, sizes, pointers),
+    if are_ascending(h, starts, sizes, pointers) {
+        return true;
     }
+    if !are_chunks_sound(h, starts, sizes, pointers) {
+        return false;
+    }
+    are_apart(h, starts, sizes, pointers)
 }

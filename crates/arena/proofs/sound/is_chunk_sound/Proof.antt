@@ -31,31 +31,31 @@ masked n p = rw (p .value) (ap (λ (r : ℕ). eqb r 0) (and-mask n (p .exponent)
 returns : tie.Need-returns
 returns c = lacking (λ s. omega arith)
 
+returns-2 : tie.Need-returns-2
+returns-2 c = lacking (λ s. omega arith)
+
 is-multiple-requires : tie.Need-is-multiple-requires
 is-multiple-requires c κs = search needs
 
-returns-2 : tie.Need-returns-2
-returns-2 c =
-    lacking (λ s. true-false (dvd-multiple step (s .start-multiple)) (taken-false (c .before .is-multiple .ensures) (c .if2 .taken)))
-
-start-multiple : (c : tie.Else2) → multiple step (c .before .before .before .args .c .start) ≡ true
-start-multiple c = left-true (c .before .is-multiple .ensures) (c .if2 .left)
-
-is-multiple-requires-2 : tie.Need-is-multiple-requires-2
-is-multiple-requires-2 c κs = search needs
-
 returns-3 : tie.Need-returns-3
 returns-3 c =
-    lacking (λ s. true-false (dvd-multiple step (s .size-multiple)) (taken-false (c .before .is-multiple2 .ensures) (c .if3 .taken)))
+    lacking (λ s. true-false (dvd-multiple step (s .size-multiple)) (taken-false (c .before .is-multiple .ensures) (c .if3 .taken)))
 
 size-multiple : (c : tie.Else3) → multiple step (c .before .before .before .before .before .args .c .size) ≡ true
-size-multiple c = left-true (c .before .is-multiple2 .ensures) (c .if3 .left)
+size-multiple c = left-true (c .before .is-multiple .ensures) (c .if3 .left)
 
 returns-4 : tie.Need-returns-4
 returns-4 c = lacking (λ s. omega arith)
 
+is-multiple-requires-2 : tie.Need-is-multiple-requires-2
+is-multiple-requires-2 c κs = search needs
+
 returns-5 : tie.Need-returns-5
-returns-5 c = lacking (λ s. omega arith)
+returns-5 c =
+    lacking (λ s. true-false (dvd-multiple step (s .start-multiple)) (taken-false (c .before .is-multiple2 .ensures) (c .if5 .taken)))
+
+start-multiple : (c : tie.Else5) → multiple step (c .before .before .before .before .before .before .before .before .before .before .args .c .start) ≡ true
+start-multiple c = left-true (c .before .is-multiple2 .ensures) (c .if5 .left)
 
 returns-6 : tie.Need-returns-6
 returns-6 c = lacking (λ s. omega arith)
@@ -80,16 +80,17 @@ unfolding chunkSound
 returns-8 c =
     let below = c .before in
     let above = below .before .before .before in
-    let starts = above .before .before in
-    let sized = starts .before .before .before in
-    let whole = sized .before .before in
-    let room = whole .before .before .before .before in
+    let start-stepped = above .before .before in
+    let starts = start-stepped .before .before in
+    let size-stepped = starts .before .before .before in
+    let sized = size-stepped .before .before in
+    let room = sized .before .before in
     let start = room .before in
     let a = start .args in
     rw (
-      start-multiple (whole .before .before),
-      size-multiple whole,
-      le-leb (pastOf (a .c)) (a .region) (inside-region (a .region) (a .c) (room .if1 .left) (sized .if4 .left) (starts .if5 .left)),
+      start-multiple start-stepped,
+      size-multiple size-stepped,
+      le-leb (pastOf (a .c)) (a .region) (inside-region (a .region) (a .c) (room .if1 .left) (sized .if2 .left) (starts .if4 .left)),
       le-leb (a .c .start) (a .c .pointer) (above .if6 .left),
       le-leb (a .c .pointer) (endOf (a .c)) (below .if7 .left),
     )
@@ -100,11 +101,11 @@ is-chunk-sound-spec =
     tie.close
     (tie.spec
     returns
-    is-multiple-requires
     returns-2
-    is-multiple-requires-2
+    is-multiple-requires
     returns-3
     returns-4
+    is-multiple-requires-2
     returns-5
     returns-6
     add-if7
