@@ -22,16 +22,17 @@ pub fn chunk_gives(minimum: usize, c: Chunk, size: usize, align: usize) -> Fast
     ensures { λ r. ⌜ r ≡ fastOf (chunkGives minimum c size align) ⌝ }
 {
     let top = rounding::down_to_power(c.pointer, align);
-    if top < c.start {
-        return Fast::Full;
-    }
     // Rounded up to both, which is to the larger of the two.
     let aligned = rounding::up_to_power(size, align);
     let needed = rounding::up_to_power(aligned, minimum);
-    if top - c.start < needed {
+    if top < needed {
         return Fast::Full;
     }
-    Fast::Room(top - needed)
+    let p = top - needed;
+    if p < c.start {
+        return Fast::Full;
+    }
+    Fast::Room(p)
 }
 
 pub fn current_gives<'a>(

@@ -18,12 +18,6 @@ use Rattle.calls.proofs.fast.chunk_gives.Tie as tie
 down-to-power-requires : tie.Need-down-to-power-requires
 down-to-power-requires c κs = search needs
 
-returns : tie.Need-returns
-unfolding fastOf
-returns c =
-    let a = c .before .before .before .args in
-    sym (ap fastOf (chunk-lacks (a .minimum) (a .c) (a .size) (a .align) (omega (arith, c .before .before .down-to-power .ensures))))
-
 -- rounded up to one power and then to the other, a number is rounded up to the larger
 up-twice : (n : ℕ) {p q : ℕ} → Power p → Power q → roundUp (roundUp n p) q ≡ roundUp n (max p q)
 up-twice n {p} {q} hp hq =
@@ -36,43 +30,50 @@ up-twice n {p} {q} hp hq =
 
 up-to-power-requires : tie.Need-up-to-power-requires
 up-to-power-requires c κs =
-    let s = c .before .before .before in
+    let s = c .before in
     (s .pre .2, omega (arith, s .pre .3, s .pre .4))
 
 up-to-power-requires-2 : tie.Need-up-to-power-requires-2
 up-to-power-requires-2 c κs =
-    let s = c .before .before .before .before in
+    let s = c .before .before in
     let a = s .args in
     let near = up-near (a .size) (a .align) (power-positive (one-bit-power (a .align) (s .pre .2))) in
     (s .pre .0, omega (arith, c .up-to-power .ensures, near, s .pre .1, s .pre .3, s .pre .4))
 
 -- the bytes that the code asks for are the needed ones
 needed-bytes : (c : tie.After-up-to-power2) →
-    let a = c .before .before .before .before .before .args in
+    let a = c .before .before .before .args in
     c .up-to-power2 .result ≡ needed (a .minimum) (a .size) (a .align)
 needed-bytes c =
-    let s = c .before .before .before .before .before in
+    let s = c .before .before .before in
     let a = s .args in
     c .up-to-power2 .ensures
     ∙ ap (λ (n : ℕ). roundUp n (a .minimum)) (c .before .up-to-power .ensures)
     ∙ up-twice (a .size) (one-bit-power (a .align) (s .pre .2)) (one-bit-power (a .minimum) (s .pre .0))
 
-returns-2 : tie.Need-returns-2
+returns : tie.Need-returns
 unfolding fastOf
-returns-2 c =
-    let u = c .before .before in
-    let d = u .before .before .before .before in
+returns c =
+    let u = c .before in
+    let d = u .before .before in
     let a = d .before .args in
     sym (ap fastOf (chunk-lacks (a .minimum) (a .c) (a .size) (a .align) (omega (arith, d .down-to-power .ensures, needed-bytes u))))
 
-sub-t9 : tie.Need-sub-t9
-sub-t9 c = search needs
+returns-2 : tie.Need-returns-2
+unfolding fastOf
+returns-2 c =
+    let e = c .before .before in
+    let u = e .before in
+    let d = u .before .before in
+    let a = d .before .args in
+    sym (ap fastOf (chunk-lacks (a .minimum) (a .c) (a .size) (a .align) (omega (arith, d .down-to-power .ensures, needed-bytes u))))
 
 returns-3 : tie.Need-returns-3
 unfolding fastOf
 returns-3 c =
-    let u = c .before .before in
-    let d = u .before .before .before .before in
+    let e = c .before .before in
+    let u = e .before in
+    let d = u .before .before in
     let a = d .before .args in
     let top = d .down-to-power .ensures in
     ap Room (omega (arith, top, needed-bytes u))
@@ -83,9 +84,8 @@ chunk-gives-spec =
     tie.close
     (tie.spec
     down-to-power-requires
-    returns
     up-to-power-requires
     up-to-power-requires-2
+    returns
     returns-2
-    sub-t9
     returns-3)
