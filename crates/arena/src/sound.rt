@@ -27,19 +27,13 @@ use crate::table::chunk_at;
 pub fn is_allowed_align(align: usize) -> bool
     ensures { λ r. ⌜ r ≡ allowedAlign align ⌝ }
 {
-    if !rounding::has_one_bit(align) {
-        return false;
-    }
-    align <= Arena::LARGEST_ALIGN
+    rounding::has_one_bit_up_to(align, Arena::LARGEST_ALIGN)
 }
 
 pub fn is_allowed_minimum(minimum: usize) -> bool
     ensures { λ r. ⌜ r ≡ allowedMinimum minimum ⌝ }
 {
-    if !rounding::has_one_bit(minimum) {
-        return false;
-    }
-    minimum <= Arena::LARGEST_MINIMUM
+    rounding::has_one_bit_up_to(minimum, Arena::LARGEST_MINIMUM)
 }
 
 fn is_limit_formed(h: Head) -> bool

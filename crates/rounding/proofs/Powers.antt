@@ -30,7 +30,7 @@ pub power-positive : {n : ℕ} → Power n → 0 < n
 power-positive p = rw (p .value) (pow-pos (p .exponent))
 
 -- exactly one bit is set in a power of two, and in no other number
-no-ones : (n : ℕ) → ones n ≡ 0 → n ≡ 0
+pub no-ones : (n : ℕ) → ones n ≡ 0 → n ≡ 0
 no-ones = bin-ind (λ (n : ℕ). ones n ≡ 0 → n ≡ 0) (λ h. refl) (λ n half h.
     let step = ones-step n in
     let rest : n / 2 ≡ 0 = half (omega arith) in

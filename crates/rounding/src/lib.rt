@@ -1,7 +1,8 @@
 // Rounding and powers of two, for every layer above. Where document 01 says "rounded up to" or "rounded down to", one of these is meant.
 ghost use mathlib.Core.Path.{_≡_};
-ghost use mathlib.Core.Bool.{true};
+ghost use mathlib.Core.Bool.{true, _&&_};
 ghost use Prim.Native.Nat.{_+_, _%_, _^_, _≤_, _<_};
+ghost use lib.Dec.{leb};
 ghost use Rattle.rounding.specs.Round.{roundDown, roundUp, multiple, oneBit, nextPower};
 
 pub fn round_down_to(n: usize, divisor: usize) -> usize
@@ -54,11 +55,18 @@ pub fn is_multiple_of_power(n: usize, power: usize) -> bool
     remainder_by_power(n, power) == 0
 }
 
-// Exactly one bit set: a power of two.
-pub fn has_one_bit(n: usize) -> bool
-    ensures { λ r. ⌜ r ≡ oneBit n ⌝ }
+// Exactly one bit set, which is a power of two, and at most so large. Of a number that is not 0 fewer than two bits are one: the compiler then tests both bounds
+// by one comparison, and the bits by a mask.
+pub fn has_one_bit_up_to(n: usize, most: usize) -> bool
+    ensures { λ r. ⌜ r ≡ (oneBit n && leb n most) ⌝ }
 {
-    usize::count_ones(n) == 1
+    if n == 0 {
+        return false;
+    }
+    if most < n {
+        return false;
+    }
+    usize::count_ones(n) < 2
 }
 
 // The least power of two at or above n. One less than n has as many digits as the power has zeros.
