@@ -1,5 +1,6 @@
 // Writes one module for each deliberate mistake: the model with one line wrong. edits MODEL MISTAKES FOLDER.. > OUT
-// The folders have the must-fail edits of our calls; each must be among the mistakes, by its file's name.
+// The folders have the must-fail edits of our calls; each wrong program of theirs must be among the mistakes by its name. The model has no lend of its own, so
+// that those that only lend's contract shuts out need not be.
 use std::fs::{read_dir, read_to_string};
 
 fn main() {
@@ -19,9 +20,13 @@ fn main() {
     }
     let folders = args[3..].iter();
     for edit in folders.flat_map(|folder| read_dir(folder).expect("the must-fail edits")) {
-        let path = edit.expect("an edit").path();
-        let name = path.file_stem().unwrap().to_str().unwrap();
-        assert!(names.iter().any(|n| n == name), "no mistake is named for the edit {name}");
+        let text = read_to_string(edit.expect("an edit").path()).expect("its text");
+        for program in text.split("mistake: ").skip(1) {
+            let name = program.lines().next().expect("its name");
+            let contract = program.lines().find_map(|l| l.strip_prefix("contract: ")).expect("its contract");
+            let lends = contract.split(' ').all(|function| function.starts_with("lend"));
+            assert!(lends || names.iter().any(|n| n == name), "no mistake is named for the wrong program {name}");
+        }
     }
     println!("pub fn all() -> Vec<(&'static str, Box<dyn crate::request::Side>)> {{\n    vec![");
     for (i, name) in names.iter().enumerate() {
