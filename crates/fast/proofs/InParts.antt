@@ -15,7 +15,6 @@ use Rattle.arena.specs.declared.Arena.{Arena}
 use Rattle.arena.specs.declared.Head.{Head}
 use Rattle.arena.specs.declared.Outcome.{Outcome}
 use Rattle.arena.specs.declared.Refusal.{Refusal}
-use Rattle.arena.specs.declared.Refusal.the-variants.{State, Region, Size, Align, Block, Direction, Token as TOKEN, Room}
 use Rattle.arena.specs.declared.change.Change.the-variants.{Moved}
 use Rattle.arena.specs.Inner.{changedBy}
 use Rattle.arena.specs.Record.{recordOf}
@@ -40,6 +39,7 @@ use Rattle.calls.proofs.Testing.{Lent, tests-refuse, tests-pass, lent-passes}
 use Rattle.host.specs.declared.Said.{Said}
 use Rattle.host.specs.declared.SaidToken.{SaidToken}
 use Rattle.host.specs.Said.{said, saidOf, saidGiven, tokenSaid, saidToken}
+use Rattle.host.proofs.Saying.{said-given}
 use Rattle.fast.specs.Parts.{headOf, partsOf}
 
 -- the record whose head was read from its five numbers
@@ -131,21 +131,9 @@ pub refused-bytes : (make : ℕ → List ℕ) (bytes : List ℕ) (a : Arena) (r 
 unfolding given afterGiven
 refused-bytes make bytes a r stopped = sym (ap (λ (o : Allocation). afterGiven (o .answer) make bytes) stopped)
 
--- what an answer in numbers tells: no refusal is 0
-number-above : (r : Refusal) → 0 < numberOf r
-number-above State = omega arith
-number-above Region = omega arith
-number-above Size = omega arith
-number-above Align = omega arith
-number-above Block = omega arith
-number-above Direction = omega arith
-number-above TOKEN = omega arith
-number-above Room = omega arith
-
+-- what an answer in numbers tells
 pub said-served : (g : Given) {s : Said} → s ≡ saidGiven g → s .refusal ≡ 0 → g ≡ At (s .offset)
-unfolding saidGiven
-said-served (At offset) e served = ap (λ (s : Said). At (s .offset)) (sym e)
-said-served (NONE r) e served = absurd (omega (arith, number-above r, ap (λ (s : Said). s .refusal) e))
+said-served g e served = said-given g (sym (ap (λ (s : Said). s .refusal) e) ∙ served) ∙ ap (λ (s : Said). At (s .offset)) (sym e)
 
 -- so the bytes are those of a served call, or are left alone
 pub served-bytes : (g : Given) (make : ℕ → List ℕ) (bytes : List ℕ) {s : Said} → s ≡ saidGiven g → s .refusal ≡ 0 → make (s .offset) ≡ afterGiven g make bytes
