@@ -1,29 +1,24 @@
-// Turns of calls on a record that was found sound once and is changed in place.
+// Turns of calls on a record that was found sound once and is changed in place. Each tests what its call tests of its numbers.
 //
-// `allocate_turns` is the inner allocate: each turn's size and alignment were found to be allowed before. The other `*_turns` test what their call tests of its
-// numbers. What needs a block is given one in the same turn, so a call with its tests is its turn less that of the first call, `placed_turns` or
-// `token_turns`. `*_tests` go as far as the tests, so the inner form of a call, which has them behind it, is its turn less those.
+// What needs a block is given one in the same turn, so a second call with its tests is its turn less that of the first call, `allocate_turns` or `token_turns`.
+// `*_tests` go as far as the tests, so the work that is left once they are done is the call's turn less those.
 //
 // A second call names the block by numbers of the list, and by the offset that was answered, changed by a number of the list that is 0: that it is the
 // block at the pointer is not known when the program is compiled.
 ghost use mathlib.Core.Path.{_≡_};
 ghost use mathlib.Core.Bool.{true};
-ghost use Prim.Native.Nat.{_+_, _*_, _≤_, _<_};
-ghost use lib.ListN.{getD, length};
+ghost use Prim.Native.Nat.{_≤_, _<_};
+ghost use lib.ListN.{length};
 ghost use Rattle.arena.specs.Sound.{soundOf};
-ghost use Rattle.cost.specs.Turns.{Allowed};
 use arena::Answer;
 use arena::Arena;
 use arena::change::Change;
 use arena::change::make;
-use arena::sound::is_allowed_align;
 use arena::sound::is_sound;
 use calls::Given;
 use calls::Token;
 use calls::allocate::allocate_placed;
 use calls::block::is_last_block;
-use calls::fast::Fast;
-use calls::fast::current_gives;
 use calls::free::free_ended;
 use calls::refusals::block_answer;
 use reshape::grow::grow_placed;
@@ -40,29 +35,12 @@ struct First {
 
 fn first_of(numbers: &[usize; 1024], turn: usize) -> First
     requires { ⌜ turn < 128 ⌝ }
-    ensures { λ r. ⌜ (r .size ≡ getD (now (numbers .entry)) (8 * turn) 0) × (r .align ≡ getD (now (numbers .entry)) (8 * turn + 1) 0) ⌝ }
 {
     let i = 8 * turn;
     First {
         size: numbers[i],
         align: numbers[i + 1],
     }
-}
-
-// Whether that is allowed in every turn that the list has numbers for: then the inner allocate has nothing to test.
-fn are_allowed(numbers: &[usize; 1024]) -> bool
-    ensures { λ r. ⌜ (r ≡ true → Allowed (now (numbers .entry))) ⌝ }
-{
-    for turn in 0..128 {
-        let n = first_of(numbers, turn);
-        if Arena::MOST < n.size {
-            return false;
-        }
-        if !is_allowed_align(n.align) {
-            return false;
-        }
-    }
-    true
 }
 
 // What its second call names and asks for; nothing is 0.
@@ -88,29 +66,6 @@ fn second_of(numbers: &[usize; 1024], turn: usize) -> Second
 }
 
 fn allocate_turns(a: Arena, numbers: &[usize; 1024], turns: usize) -> usize
-    requires { ⌜ (soundOf a ≡ true) × (turns ≤ 128) × Allowed (now numbers) ⌝ }
-{
-    let mut head = a.head;
-    let mut starts = a.starts;
-    let mut sizes = a.sizes;
-    let mut pointers = a.pointers;
-    for turn in 0..turns {
-        let n = first_of(numbers, turn);
-        let Fast::Room(p) = current_gives(head, &starts, &sizes, &pointers, n.size, n.align) else {
-            return turn;
-        };
-        head = make(
-            head,
-            &mut starts,
-            &mut sizes,
-            &mut pointers,
-            Change::Moved(p),
-        );
-    }
-    turns
-}
-
-fn placed_turns(a: Arena, numbers: &[usize; 1024], turns: usize) -> usize
     requires { ⌜ (soundOf a ≡ true) × (turns ≤ 128) ⌝ }
 {
     let mut head = a.head;
@@ -464,13 +419,13 @@ fn turns_of(
     requires { ⌜ (soundOf a ≡ true) × (length (now region) ≡ a .head .region) × (turns ≤ 128) ⌝ }
 {
     match what {
+        1 => allocate_turns(a, numbers, turns),
         2 => free_turns(a, numbers, turns),
         3 => grow_turns(a, region, numbers, turns),
         4 => shrink_turns(a, region, numbers, turns),
         5 => token_turns(a, numbers, turns),
         6 => cancel_turns(a, numbers, turns),
         7 => reset_turns(a, numbers, turns),
-        11 => placed_turns(a, numbers, turns),
         12 => free_tests(a, numbers, turns),
         13 => grow_tests(a, numbers, turns),
         14 => shrink_tests(a, numbers, turns),
@@ -494,12 +449,6 @@ pub fn served(
     }
     if region.len() != a.head.region {
         return 0;
-    }
-    if what == 1 {
-        if !are_allowed(numbers) {
-            return 0;
-        }
-        return allocate_turns(a, numbers, turns);
     }
     turns_of(what, a, region, numbers, turns)
 }
