@@ -69,9 +69,9 @@ enum miravoly_refusal {
     MIRAVOLY_REGION = 2,    /* the length lent is not the record's; at creation, too long */
     MIRAVOLY_SIZE = 3,      /* a size, capacity or source length is over the maximum */
     MIRAVOLY_ALIGN = 4,     /* an alignment, or at creation the minimum, is not allowed */
-    MIRAVOLY_BLOCK = 5,     /* the block named is not one that the arena can have given */
+    MIRAVOLY_BLOCK = 5,     /* the block named can't be a live one of the arena */
     MIRAVOLY_DIRECTION = 6, /* grow to a smaller size, or shrink to a larger */
-    MIRAVOLY_TOKEN = 7,     /* the token is not one that the arena can have given */
+    MIRAVOLY_TOKEN = 7,     /* the token can't be that of a live block */
     MIRAVOLY_ROOM = 8       /* neither the current chunk nor a new one has room */
 };
 
