@@ -99,6 +99,16 @@ pub served-stands : {h : Head} {cs : List Chunk} {size align : ℕ} {t : Taken} 
 served-stands s (by-current taken) = taken-stands s taken
 served-stands s (by-new c fresh taken) = taken-stands (standing-pushed s fresh) taken
 
+taken-lies : {minimum size align : ℕ} {c : Chunk} {cs : List Chunk} {t : Taken} → TakenFrom minimum c cs size align t → c .pointer ≤ endOf c →
+    Lies (t .offset) size (t .chunks)
+taken-lies {size = size} {t = t} taken below =
+    subst (Lies (t .offset) size) (sym (taken .chunks)) (in-current (taken .carved .low) (omega (arith, taken .carved .fits)))
+
+-- and in a chunk that is held then
+pub served-lies : {h : Head} {cs : List Chunk} {size align : ℕ} {t : Taken} → Standing h cs → Served h size align t cs → Lies (t .offset) size (t .chunks)
+served-lies s (by-current taken) = taken-lies taken (s .chunks .0 .below-end)
+served-lies s (by-new c fresh taken) = taken-lies taken (omega (arith, fresh .at-end))
+
 -- and so where the block of a live one is moved
 pub moved-inside : {h : Head} {cs : List Chunk} {offset old new newAlign : ℕ} {t : Taken} → Standing h cs → Lies offset old cs →
     Moved h offset old new newAlign t cs → t .offset + new ≤ h .region
@@ -112,3 +122,15 @@ moved-stands s l (afresh served) = served-stands s served
 moved-stands {h} {t = t} s l (recarved e chunks r) =
     subst (Standing h) (sym chunks) (standing-repointed (t .offset) s (r .low) (omega (arith, r .within, lies-current s l e)) (r .on-minimum))
 moved-stands {h} s l (staying e chunks less d) = subst (Standing h) (sym chunks) s
+
+-- a part of a block lies where the block does
+lies-shorter : {offset old new : ℕ} {cs : List Chunk} → new ≤ old → Lies offset old cs → Lies offset new cs
+lies-shorter less (in-current {c} low high) = in-current {c = c} low (omega arith)
+lies-shorter less (in-older l) = in-older (lies-shorter less l)
+
+pub moved-lies : {h : Head} {cs : List Chunk} {offset old new newAlign : ℕ} {t : Taken} → Standing h cs → Lies offset old cs →
+    Moved h offset old new newAlign t cs → Lies (t .offset) new (t .chunks)
+moved-lies s l (afresh served) = served-lies s served
+moved-lies {new = new} {t = t} s l (recarved e chunks r) =
+    subst (Lies (t .offset) new) (sym chunks) (in-current (r .low) (omega (arith, r .within, lies-current s l e)))
+moved-lies {new = new} s l (staying e chunks less d) = rw (e, chunks) (lies-shorter less l)

@@ -20,6 +20,7 @@ pub mod Passing
 pub mod Placing
 pub mod Reading
 pub mod Requests
+pub mod Reserved
 pub mod Resizing
 pub mod Results
 pub mod Rewinding
@@ -29,4 +30,5 @@ pub mod Some
 pub mod StaysSound
 pub mod Testing
 pub mod Touching
+pub mod Unread
 pub mod Writing

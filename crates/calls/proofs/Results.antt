@@ -22,7 +22,7 @@ use Rattle.calls.proofs.Passing.{Request, request-passes, grow-passes, 
 use Rattle.calls.proofs.Serving.{Served, allocate-serves}
 use Rattle.calls.proofs.Moving.{Moved, afresh, grow-moves, shrink-moves, resize-moves}
 use Rattle.calls.proofs.Needing.{resize-afresh}
-use Rattle.calls.proofs.Blocks.{acceptable-aligned, acceptable-lies, lies-inside, served-inside, served-stands, moved-inside, moved-stands}
+use Rattle.calls.proofs.Blocks.{Lies, acceptable-aligned, acceptable-lies, lies-inside, served-inside, served-stands, served-lies, moved-inside, moved-stands, moved-lies}
 
 -- the answer is a block's offset where no test refuses the call and the rules give the block
 pub record GivenAt (r : Option Refusal) (o : Option Taken) (to : ℕ) : Type 0 where
@@ -42,6 +42,7 @@ pub record Allocated (a : Arena) (lent size align : ℕ) (t : Taken) : Type 0 wh
   pub request : Request a lent size align
   pub served : Served (a .head) size align t (heldOf a)
   pub stands : Standing (a .head) (t .chunks)
+  pub lies : Lies (t .offset) size (t .chunks)
   pub inside : t .offset + size ≤ lent
 
 -- a block in place of another
@@ -49,6 +50,7 @@ pub record Replaced (a : Arena) (lent offset old new newAlign : ℕ) (t : Taken)
   pub request : Request a lent new newAlign
   pub moved : Moved (a .head) offset old new newAlign t (heldOf a)
   pub stands : Standing (a .head) (t .chunks)
+  pub lies : Lies (t .offset) new (t .chunks)
   pub inside : t .offset + new ≤ lent
   pub old-inside : 0 < old → offset + old ≤ lent
 
@@ -62,6 +64,7 @@ allocate-result a lent size align r o =
       request = request;
       served = served;
       stands = served-stands standing served;
+      lies = served-lies standing served;
       inside = omega (arith, served-inside standing served, request .region);
     }
 
@@ -74,6 +77,7 @@ replaced {a} {offset = offset} {old = old} oldAlign request accepted moved =
       request = request;
       moved = moved;
       stands = moved-stands standing lies moved;
+      lies = moved-lies standing lies moved;
       inside = omega (arith, moved-inside standing lies moved, request .region);
       old-inside = λ l. omega (arith, lies-inside standing lies, request .region);
     }
@@ -115,6 +119,7 @@ resize-result a lent offset old align new {t} r o = ⊎-elim fresh moves (eq-zer
           request = request;
           moved = afresh served;
           stands = served-stands standing served;
+          lies = served-lies standing served;
           inside = omega (arith, served-inside standing served, request .region);
           old-inside = λ l. absurd (omega arith);
         }

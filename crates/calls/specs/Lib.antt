@@ -7,4 +7,5 @@ pub mod Shrink
 pub mod Resize
 pub mod Token
 pub mod Write
+pub mod Reserved
 pub mod Inner
