@@ -11,11 +11,13 @@ use Rattle.rounding.specs.Every.{Each}
 use Rattle.arena.specs.declared.Arena.{Arena}
 use Rattle.arena.specs.declared.Chunk.{Chunk}
 use Rattle.arena.specs.declared.Head.{Head}
+use Rattle.arena.specs.declared.Answer.the-variants.{Done}
 use Rattle.arena.specs.declared.Refusal.{Refusal}
 use Rattle.arena.specs.declared.Refusal.the-variants.{Room}
 use Rattle.arena.specs.Record.{endOf, pastOf, withPointer, heldOf}
-use Rattle.arena.proofs.Soundness.{Clear, Apart}
-use Rattle.arena.proofs.Standing.{Standing}
+use Rattle.arena.specs.Refusals.{refusedBy}
+use Rattle.arena.proofs.Soundness.{Clear, Apart, sound-open}
+use Rattle.arena.proofs.Standing.{Standing, sound-standing}
 use Rattle.arena.proofs.View.{held-holding}
 use Rattle.calls.specs.declared.Given.{Given}
 use Rattle.calls.specs.declared.Given.the-variants.{At, Refused}
@@ -24,11 +26,13 @@ use Rattle.calls.specs.Allocate.{Taken, given, allocateOf}
 use Rattle.calls.specs.Grow.{growOf, growBytes, growZeroedBytes}
 use Rattle.calls.specs.Shrink.{shrinkOf, shrinkBytes}
 use Rattle.calls.specs.Resize.{resizeOf, resizeBytes}
-use Rattle.calls.specs.Write.{copyInBytes, fillBytes}
+use Rattle.calls.specs.Write.{copyInBytes, fillBytes, lendTests, lendOf}
+use Rattle.calls.specs.Inner.{lentTests, blockTests}
 use Rattle.calls.specs.Reserved.{Reserved, of-current, of-older, NeverWritten}
-use Rattle.calls.proofs.Blocks.{Lies, in-current, in-older}
+use Rattle.calls.proofs.Blocks.{Lies, in-current, in-older, acceptable-lies}
 use Rattle.calls.proofs.Serving.{Served, by-current, by-new}
 use Rattle.calls.proofs.Moving.{Moved, afresh, recarved, staying}
+use Rattle.calls.proofs.Testing.{passes-both, tests-pass, lent-passes, block-passes}
 use Rattle.calls.proofs.Touching.{OnlyIn}
 use Rattle.calls.proofs.Carrying.{grow-carries, grow-zeroed-carries, shrink-carries, resize-carries, copy-in-copies, fill-fills}
 use Rattle.calls.proofs.Results.{Allocated, Replaced, allocate-result, grow-result, shrink-result, resize-result}
@@ -139,3 +143,12 @@ module _ (a : Arena) (bytes : List ℕ) where
       never-written a bytes _ size _ _ (λ t r o. allocated-gives (allocate-result a (length bytes) size align r o))
       (λ to e. subst (λ (n : ℕ). OnlyIn bytes (fillBytes a bytes size align value) to (to + n)) (length-replicate size value) (fill-fills a bytes align to size value e .only))
       (refused-same _ _ bytes)
+
+-- nor is a byte reserved that is lent
+pub lent-unreserved : (a : Arena) (lent offset size align : ℕ) → lendOf a lent offset size align ≡ Done →
+    (x : ℕ) → offset ≤ x → x < offset + size → Reserved x (heldOf a) → ⊥
+unfolding lendOf
+lent-unreserved a lent offset size align e x low high =
+    let (region, block) = passes-both (lentTests a lent) (blockTests a offset size align) (tests-pass (refusedBy (lendTests a lent offset size align)) (sym e)) in
+    let standing = sound-standing (sound-open a (lent-passes a lent region .sound)) in
+    lies-unreserved (standing .apart) (acceptable-lies (heldOf a) offset size align standing (block-passes a offset size align block .block)) low high
