@@ -32,3 +32,4 @@ pub mod Testing
 pub mod Touching
 pub mod Unread
 pub mod Writing
+pub mod Unchanged

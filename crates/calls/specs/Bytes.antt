@@ -13,6 +13,10 @@ written bytes at new = take at bytes ++ (new ++ drop (at + length new) bytes)
 abbrev pub part : List ℕ → ℕ → ℕ → List ℕ
 part bytes at n = take n (drop at bytes)
 
+-- where a part of the region that begins at an offset stands: in the region's own allocation, so far on from its first byte
+abbrev pub standsAt : ℕ × ℕ → ℕ → ℕ × ℕ
+standsAt first at = (first .0, at + first .1)
+
 -- "carried over as if first read whole": n bytes from one offset to another
 unfoldable pub carried : List ℕ → ℕ → ℕ → ℕ → List ℕ
 carried bytes from to n = written bytes to (part bytes from n)

@@ -9,3 +9,4 @@ pub mod Token
 pub mod Write
 pub mod Reserved
 pub mod Inner
+pub mod Stores

@@ -39,3 +39,8 @@ lendOf a lent offset size align = lendAnswer (refusedBy (lendTests a lent offset
 unfoldable pub lentPart : Answer → List ℕ → ℕ → ℕ → List ℕ
 lentPart Done bytes offset size = part bytes offset size
 lentPart (Refused r) bytes offset size = []
+
+-- "a block's own bytes": where the lent part begins in the region; refused, the empty part is at its beginning
+unfoldable pub lentFrom : Answer → ℕ → ℕ
+lentFrom Done offset = offset
+lentFrom (Refused r) offset = 0

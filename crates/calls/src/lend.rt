@@ -1,7 +1,9 @@
 // Lending a block: its own bytes for writing, exactly those, and a call beside it that says why a block was not lent.
 ghost use mathlib.Core.Path.{_≡_};
+ghost use denote.Ref.{ptr};
 ghost use lib.ListN.{length};
-ghost use Rattle.calls.specs.Write.{lendOf, lentPart};
+ghost use Rattle.calls.specs.Bytes.{standsAt};
+ghost use Rattle.calls.specs.Write.{lendOf, lentPart, lentFrom};
 use crate::refusals::block_answer;
 use crate::refusals::lent_answer;
 use arena::Answer;
@@ -39,6 +41,7 @@ pub fn lend<'r>(
     align: usize,
 ) -> &'r mut [u8]
     ensures { λ r. ⌜ now r ≡ lentPart (lendOf a (length (now (region .entry))) offset size align) (now (region .entry)) offset size ⌝ }
+    ensures { λ r. ⌜ ptr r ≡ standsAt (ptr (region .entry)) (lentFrom (lendOf a (length (now (region .entry))) offset size align) offset) ⌝ }
 {
     let answer = answer_of(a, region.len(), offset, size, align);
     if let Answer::Refused(_) = answer {

@@ -1,5 +1,6 @@
 -- `calls::bytes::fill` meets its contract: the part that is lent is `size` bytes long and comes back full of the value.
 -- Assumes nothing.
+mod Stores
 use mathlib.Core.Path.{_≡_, ap, _∙_}
 use Prim.Native.Nat.{ℕ, _+_, _-_}
 use native.Mathlib.Omega.{arith}

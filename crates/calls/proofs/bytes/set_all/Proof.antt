@@ -1,5 +1,6 @@
 -- `calls::bytes::set_all` meets its contract: after i turns the first i bytes are the value and the rest stand.
 -- Assumes nothing.
+mod Stores
 use mathlib.Core.Path.{_≡_, ap, _∙_}
 use mathlib.Core.List.{List, _++_, append-nil}
 use Prim.Native.Nat.{ℕ, _-_, _≤_}

@@ -1,12 +1,15 @@
--- `calls::lend::lend` meets its contract: refused, the part is empty, and else it is the block's, which lies in the region. Assumes nothing.
+-- `calls::lend::lend` meets its contract: refused, the part is empty, and else it is the block's, which lies in the region. That it changes no byte,
+-- which a contract can't say, is `Stores`. Assumes nothing.
+mod Stores
 use Prim.Native.Nat.{_+_, _-_, _≤_}
 use native.Mathlib.Omega.{arith}
 use mathlib.Core.Path.{_≡_, sym, _∙_, ap}
 use borrow.Author.Needs.{needs}
 use lib.ListN.{length}
 use Rattle.arena.specs.declared.Answer.{Answer}
-use Rattle.calls.specs.Bytes.{part}
-use Rattle.calls.specs.Write.{lentPart}
+use Rattle.arena.specs.declared.Answer.the-variants.{Done}
+use Rattle.calls.specs.Bytes.{part, standsAt}
+use Rattle.calls.specs.Write.{lendOf, lentPart, lentFrom}
 use Rattle.calls.proofs.Lending.{lent-inside}
 use Rattle.calls.proofs.lend.lend.Statement.{statement}
 use Rattle.calls.proofs.lend.lend.Tie as tie
@@ -27,23 +30,48 @@ part-region-end : tie.Need-part-region-end
 part-region-end c = search needs
 
 returns : tie.Need-returns
-unfolding lentPart
+unfolding lentPart lentFrom
 returns c =
     let t = c .before .before .before in
     let s = t .before .before .args in
-    sym (ap (λ (answer : Answer). lentPart answer (s .region .now) (s .offset) (s .size)) (sym (t .answer-of .ensures) ∙ c .before .enum-told .given .1))
+    let answer = sym (t .answer-of .ensures) ∙ c .before .enum-told .given .1 in (
+      sym (ap (λ (answer : Answer). lentPart answer (s .region .now) (s .offset) (s .size)) answer),
+      sym (ap (λ (answer : Answer). standsAt (s .region .ptr) (lentFrom answer (s .offset))) answer),
+    )
 
 enum-told-2 : tie.Need-enum-told-2
 enum-told-2 c = search needs
 
--- the block that is lent lies in the region
+-- past the tests the block is lent
+done : (c : tie.After-enum-told2) →
+    let s = c .before .before .before .before .args in
+    lendOf (s .a) (length (s .region .now)) (s .offset) (s .size) (s .align) ≡ Done
+done c = sym (c .before .before .answer-of .ensures) ∙ c .enum-told2 .given .1
+
+-- and lies in the region
 inside : (c : tie.After-enum-told2) →
     let s = c .before .before .before .before .args in
     s .offset + s .size ≤ length (s .region .now)
 inside c =
-    let t = c .before .before in
-    let s = t .before .before .args in
-    lent-inside (s .a) (length (s .region .now)) (s .offset) (s .size) (s .align) (sym (t .answer-of .ensures) ∙ c .enum-told2 .given .1)
+    let s = c .before .before .before .before .args in
+    lent-inside (s .a) (length (s .region .now)) (s .offset) (s .size) (s .align) (done c)
+
+-- so its bytes are lent, from its offset on
+its-bytes : (c : tie.After-enum-told2) →
+    let s = c .before .before .before .before .args in
+    lentPart (lendOf (s .a) (length (s .region .now)) (s .offset) (s .size) (s .align)) (s .region .now) (s .offset) (s .size) ≡ part (s .region .now) (s .offset) (s .size)
+unfolding lentPart
+its-bytes c =
+    let s = c .before .before .before .before .args in
+    ap (λ (answer : Answer). lentPart answer (s .region .now) (s .offset) (s .size)) (done c)
+
+its-place : (c : tie.After-enum-told2) →
+    let s = c .before .before .before .before .args in
+    standsAt (s .region .ptr) (lentFrom (lendOf (s .a) (length (s .region .now)) (s .offset) (s .size) (s .align)) (s .offset)) ≡ standsAt (s .region .ptr) (s .offset)
+unfolding lentFrom
+its-place c =
+    let s = c .before .before .before .before .args in
+    ap (λ (answer : Answer). standsAt (s .region .ptr) (lentFrom answer (s .offset))) (done c)
 
 add-end : tie.Need-add-end
 add-end c = omega (arith, inside c)
@@ -58,13 +86,11 @@ part-region-end-2 : tie.Need-part-region-end-2
 part-region-end-2 c = omega (arith, inside c)
 
 returns-2 : tie.Need-returns-2
-unfolding lentPart
 returns-2 c =
-    let t = c .before .before .before in
-    let s = t .before .before .args in
+    let e = c .before in
+    let s = e .before .before .before .before .args in
     let long : s .offset + s .size - s .offset ≡ s .size = omega arith in
-    ap (part (s .region .now) (s .offset)) long
-    ∙ sym (ap (λ (answer : Answer). lentPart answer (s .region .now) (s .offset) (s .size)) (sym (t .answer-of .ensures) ∙ c .before .enum-told2 .given .1))
+    (ap (part (s .region .now) (s .offset)) long ∙ sym (its-bytes e), sym (its-place e))
 
 pub lend-spec : {M : Type 1} → statement M
 lend-spec =
