@@ -6,7 +6,9 @@
 //         w = moved(w);
 //     }
 ghost use mathlib.Core.Path.{_≡_};
+ghost use denote.Ref.{ptr};
 ghost use lib.ListN.{length};
+ghost use Rattle.calls.specs.Bytes.{standsAt};
 ghost use Rattle.host.specs.Walk.{walkAnswer, stepOf, stepPart, nextIndex};
 use crate::SaidStep;
 use crate::answers::number_of;
@@ -74,7 +76,7 @@ pub fn step_at(region: &[u8], a: Arena, index: usize) -> SaidStep
 }
 
 pub fn part_at<'r>(region: &'r [u8], a: Arena, index: usize) -> &'r [u8]
-    ensures { λ r. ⌜ now r ≡ stepPart (now (region .entry)) (stepOf a (length (now (region .entry))) index) ⌝ }
+    ensures { λ r. ⌜ (now r ≡ stepPart (now (region .entry)) (stepOf a (length (now (region .entry))) index)) × (ptr r ≡ standsAt (ptr (region .entry)) (stepOf a (length (now (region .entry))) index .offset)) ⌝ }
 {
     let step = step_in(a, region.len(), index);
     let from = step.offset;
@@ -108,7 +110,7 @@ pub fn said<'r>(w: Walk<'r>) -> SaidStep
 }
 
 pub fn part<'r>(w: Walk<'r>) -> &'r [u8]
-    ensures { λ r. ⌜ now r ≡ stepPart (now (w .entry .region)) (stepOf (w .entry .arena) (length (now (w .entry .region))) (w .entry .index)) ⌝ }
+    ensures { λ r. ⌜ (now r ≡ stepPart (now (w .entry .region)) (stepOf (w .entry .arena) (length (now (w .entry .region))) (w .entry .index))) × (ptr r ≡ standsAt (ptr (w .entry .region)) (stepOf (w .entry .arena) (length (now (w .entry .region))) (w .entry .index) .offset)) ⌝ }
 {
     part_at(w.region, w.arena, w.index)
 }

@@ -39,6 +39,7 @@ use denote.Triple.Table.{entered, cited}
 use denote.Triple.Walked.{says, Stays, stay-dropped, walkOf, goes-dropped, Walks, ends-at, walked, walk-meets}
 use denote.Exit.{yes}
 use Rattle.arena.proofs.Arena as R
+use Rattle.calls.specs.Bytes.{standsAt}
 use Rattle.host.specs.declared.walk.Walk.{Walk}
 use Rattle.host.specs.Walk.{stepOf, stepPart}
 use Rattle.host.proofs.Lent.{mach, typed-record}
@@ -77,6 +78,10 @@ module _ {M : Type 1} (𝓤 : URA M) (H : Heap 𝓤) (A : Atoms 𝓤) (W : Given
   abbrev found : List ℕ
   found = stepPart (d .region .now) (stepOf (d .arena) (length (d .region .now)) (d .index))
 
+  -- what is said of the part: its bytes, and where it stands
+  abbrev Said : RefT (List ℕ) → Type 0
+  Said r = (r .now ≡ found) × (r .ptr ≡ standsAt (d .region .ptr) (stepOf (d .arena) (length (d .region .now)) (d .index) .offset))
+
   -- what the callee is passed: the fields, in their order
   abbrev to-callee : Called 𝓤 H A mem run .Ghost
   to-callee = (((κ, tt), (q, tt), tt, (d .region, (d .arena, (d .index, tt))), (sliceVal (d .region .ptr) (length (d .region .now)) ∷ [], (mach (d .arena) ∷ [], (vint w64 (d .index) ∷ [], tt)))), tt)
@@ -84,10 +89,10 @@ module _ {M : Type 1} (𝓤 : URA M) (H : Heap 𝓤) (A : Atoms 𝓤) (W : Given
   goes-in : ent 𝓤 (⋆ 𝓤 H A ((‵ (flft κ q) ⊛ ‵ ftrue) ∷ ‵ (all-own (T.the-type α .parts) (T′.the-laws α) (d .region, (d .arena, (d .index, tt)))) ∷ [])) (Called 𝓤 H A mem run .pre to-callee)
   goes-in = qed W ((‵ (flft κ q) ⊛ ‵ ftrue) ∷ ‵ (all-own (T.the-type α .parts) (T′.the-laws α) (d .region, (d .arena, (d .index, tt)))) ∷ []) ∵ join ! $ frame ! $ done !
 
-  told : (r : RefT (List ℕ)) → ent 𝓤 (ensured 𝓤 H A callee.ended (callee.clauses 𝓤 H A mem run) (κ, tt) (d .region, (d .arena, (d .index, tt))) tt r) (fact 𝓤 (r .now ≡ found))
-  told r = exE 𝓤 _ (λ ws. snd∗ 𝓤 (sem 𝓤 H A (lasts callee.ended (κ, tt) (d .region, (d .arena, (d .index, tt))) ws)) (fact 𝓤 (r .now ≡ found)))
+  told : (r : RefT (List ℕ)) → ent 𝓤 (ensured 𝓤 H A callee.ended (callee.clauses 𝓤 H A mem run) (κ, tt) (d .region, (d .arena, (d .index, tt))) tt r) (fact 𝓤 (Said r))
+  told r = exE 𝓤 _ (λ ws. snd∗ 𝓤 (sem 𝓤 H A (lasts callee.ended (κ, tt) (d .region, (d .arena, (d .index, tt))) ws)) (fact 𝓤 (Said r)))
 
-  exits : (r : RefT (List ℕ)) (u : Val) → r .now ≡ found → ent 𝓤 (⋆ 𝓤 H A (‵ (ShrSlice (named 0) κ u8 .own r (u ∷ [])) ∷ (‵ (flft κ q) ⊛ ‵ ftrue) ∷ [])) (Post u)
+  exits : (r : RefT (List ℕ)) (u : Val) → Said r → ent 𝓤 (⋆ 𝓤 H A (‵ (ShrSlice (named 0) κ u8 .own r (u ∷ [])) ∷ (‵ (flft κ q) ⊛ ‵ ftrue) ∷ [])) (Post u)
   exits r u e =
       qed W (‵ (ShrSlice (named 0) κ u8 .own r (u ∷ [])) ∷ (‵ (flft κ q) ⊛ ‵ ftrue) ∷ []) ∵
       suffices ! _ (ends-at 𝓤 H A entry.ended stayed (entry.clauses 𝓤 H A mem run) W (((κ, tt), (q, tt), tt, (d, tt), (mach-walk ∷ [], tt)), tt) u r (tt, tt) (tt, tt)) $ says ! e $
@@ -107,7 +112,7 @@ module _ {M : Type 1} (𝓤 : URA M) (H : Heap 𝓤) (A : Atoms 𝓤) (W : Given
         move ! (12 ∷ 0 ∷ []) $ use2 W (raw (Called 𝓤 H A mem run .pre to-callee)) goes-in $
         calls-at ! fm (Called 𝓤 H A mem run) known to-callee (and-then ! (load ! (from ! (stop !)) (look ! 6 refl)) (and-then ! (load ! (from ! (stop !)) (look ! 4 refl)) (and-then ! (load ! (from ! (stop !)) (look ! 2 refl)) (no-more !)))) (λ u.
         use1 W (later (some (λ (r : RefT (List ℕ)). ((‵ (flft κ q) ⊛ ‵ ftrue) ⊛ ‵ (ShrSlice (named 0) κ u8 .own r (u ∷ []))) ⊛ raw (ensured 𝓤 H A callee.ended (callee.clauses 𝓤 H A mem run) (κ, tt) (d .region, (d .arena, (d .index, tt))) tt r)))) (id⊢ 𝓤 _) $ await ! tt $ pick ! (λ r.
-        split ! $ move ! (1 ∷ []) $ use1 W (raw (fact 𝓤 (r .now ≡ found))) (told r) $ heard ! (r .now ≡ found) (λ e. split ! $ move ! (1 ∷ []) $
+        split ! $ move ! (1 ∷ []) $ use1 W (raw (fact 𝓤 (Said r))) (told r) $ heard ! (Said r) (λ e. split ! $ move ! (1 ∷ []) $
         -- [the result; the token; true; _4; …; _3; …; _2; …; _1; …; room for _0; …]
         peeks ! (ShrSlice (named 0) κ u8) (Is (ShrSlice (named 0) κ u8)) (shows 𝓤 H A (ShrSlice (named 0) κ u8)) r (u ∷ []) (λ is.
         land ! (from ! (stop !)) (init ! 11 refl (shr-slice-lawful 𝓤 H A W (named 0) κ u8 .typed r _ is .0)) $

@@ -1,10 +1,11 @@
--- `host::walk::part_at` meets its contract: the part that the step tells lies in the region. Assumes nothing.
+-- `host::walk::part_at` meets its contract: the part that the step tells lies in the region, and stands where the step says.
+-- Assumes nothing.
 use Prim.Native.Nat.{_+_, _-_, _≤_}
 use native.Mathlib.Omega.{arith}
 use mathlib.Core.Path.{_≡_, sym, _∙_, ap, subst}
 use lib.ListN.{length}
 use denote.Ref.{now}
-use Rattle.calls.specs.Bytes.{part}
+use Rattle.calls.specs.Bytes.{part, standsAt}
 use borrow.Author.Needs.{needs}
 use Rattle.host.specs.declared.SaidStep.{SaidStep}
 use Rattle.host.specs.Walk.{stepPart}
@@ -38,8 +39,10 @@ returns c =
     let k = c .before .before in
     let s = k .before .before .args in
     let t = k .step-in .result in
-    let long : t .offset + t .length - t .offset ≡ t .length = omega arith in
-    ap (part (now (s .region)) (t .offset)) long ∙ ap (stepPart (now (s .region))) (k .step-in .ensures)
+    let long : t .offset + t .length - t .offset ≡ t .length = omega arith in (
+      ap (part (now (s .region)) (t .offset)) long ∙ ap (stepPart (now (s .region))) (k .step-in .ensures),
+      ap (λ (u : SaidStep). standsAt (s .region .ptr) (u .offset)) (k .step-in .ensures),
+    )
 
 pub part-at-spec : {M : Type 1} → statement M
 part-at-spec = tie.close (tie.spec step-in-requires add-end sub-result part-result-start part-result-end returns)
