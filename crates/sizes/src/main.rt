@@ -1,5 +1,5 @@
-// Prints what the rules beneath the calls say of a table of inputs: usable sizes, rungs, ladders and places. The file stdout has the lines as
-// they follow from document 01.
+// Says what the rules beneath the calls answer to a table of questions: usable sizes, rungs, ladders and places. Standard input is the table; the file
+// stdout has its lines with the answers, as they follow from document 01.
 ghost use mathlib.Core.Path.{_≡_};
 ghost use mathlib.Core.Bool.{true};
 ghost use Prim.Native.Nat.{_≤_};
@@ -7,7 +7,8 @@ ghost use Rattle.arena.specs.Numbers.{most};
 ghost use Rattle.arena.specs.Sound.{allowedAlign};
 use arena::Arena;
 use arena::Chunk;
-use arena::creation::with_chunk;
+use arena::Head;
+use arena::creation::emptied;
 use arena::ladder::NewChunk;
 use arena::ladder::climb;
 use arena::ladder::held_bytes;
@@ -17,7 +18,15 @@ use arena::placing::lowest_place;
 use arena::sizing::usable_size;
 use arena::sound::is_allowed_align;
 use arena::sound::is_sound;
-use arena::table::chunk_at;
+use trial::row::with_chunk;
+use trial::row::with_number;
+use trial::say::number;
+use trial::say::text;
+use trial::table::Numbers;
+use trial::table::begins;
+use trial::table::find;
+use trial::table::lesser;
+use trial::table::read_numbers;
 
 // What a rule says. It isn't asked where the record is unsound or the request isn't allowed.
 enum Said {
@@ -110,15 +119,6 @@ fn ask_place(a: Arena, n: usize, multiple: usize) -> Said {
     }
 }
 
-fn text(t: &[u8]) {
-    io::write_all(1, t);
-}
-
-fn number(before: &[u8], n: usize) {
-    text(before);
-    io::print_decimal(1, n as u64);
-}
-
 fn show_said(s: Said) {
     match s {
         Said::Usable(n) => number(b" = ", n),
@@ -137,159 +137,94 @@ fn show_said(s: Said) {
     text(b"\n");
 }
 
-fn show_chunk(i: usize, c: Chunk) {
-    if i == 0 {
-        text(b" holding ");
-    } else {
-        text(b", ");
-    }
-    number(b"", c.size);
-    number(b" at ", c.start);
+fn number_of(n: Numbers, i: usize) -> usize {
+    if i < 136 { n.of[i] } else { 0 }
 }
 
-// The region length, the limit and the held chunks, at the front of a line.
-fn show_arena(a: Arena) {
-    number(b"region ", a.head.region);
-    if a.head.limited == 1 {
-        number(b" limit ", a.head.limit);
+// With a limit the numbers are even in number: the region's length, the limit, and two for each chunk.
+fn is_limited(n: Numbers) -> bool {
+    n.count % 2 == 0
+}
+
+fn head_of(n: Numbers) -> Arena {
+    let mut head = Head {
+        region: n.of[0],
+        minimum: 1,
+        limited: 0,
+        limit: 0,
+        count: 0,
+    };
+    if is_limited(n) {
+        head.limited = 1;
+        head.limit = n.of[1];
     }
-    for i in 0..Arena::PLACES {
-        if i < a.head.count {
-            show_chunk(i, chunk_at(&a.starts, &a.sizes, &a.pointers, i));
+    emptied(head)
+}
+
+// Where the chunks begin among the numbers.
+fn first_chunk(n: Numbers) -> usize
+    ensures { λ r. ⌜ r ≤ 2 ⌝ }
+{
+    if is_limited(n) { 2 } else { 1 }
+}
+
+// The chunks stand after the region's length and the limit, each with its n and its start; their pointers are at the start.
+fn record_of(n: Numbers) -> Arena {
+    let mut a = head_of(n);
+    for i in 0..32 {
+        let at = first_chunk(n) + 2 * i;
+        if at + 2 <= n.count {
+            let start = number_of(n, at + 1);
+            a = with_number(with_chunk(a, i, start, number_of(n, at), start), 4, i + 1);
         }
     }
+    a
 }
 
-fn show_usable(base: usize, size: usize, align: usize) {
-    number(b"usable ", base);
-    number(b" ", size);
-    number(b" ", align);
-    show_said(ask_usable(base, size, align));
-}
-
-fn show_rung(a: Arena, base: usize, size: usize, align: usize) {
-    show_arena(a);
-    number(b": rung ", base);
-    number(b" ", size);
-    number(b" ", align);
-    show_said(ask_rung(a, base, size, align));
-}
-
-fn show_ladder(a: Arena, size: usize, align: usize) {
-    show_arena(a);
-    number(b": ladder ", size);
-    number(b" ", align);
-    show_said(ask_ladder(a, size, align));
-}
-
-fn show_place(a: Arena, n: usize, multiple: usize) {
-    show_arena(a);
-    number(b": place ", n);
-    number(b" ", multiple);
-    show_said(ask_place(a, n, multiple));
-}
-
-// A new arena, minimum 1.
-fn created(region: usize, capacity: usize) -> Arena {
-    let got = Arena::with_min_align_and_capacity(region, 1, capacity);
-    got.arena
-}
-
-fn under(a: Arena, limit: usize) -> Arena {
-    let got = a.set_allocation_limit(limit);
-    got.arena
-}
-
-// One chunk more. On an unsound record or a full table nothing changes.
-fn holding(a: Arena, n: usize, at: usize) -> Arena {
-    if !is_sound(a.head, &a.starts, &a.sizes, &a.pointers) {
-        return a;
+fn show_question(a: Arena, question: &[u8]) {
+    let n = read_numbers(question);
+    if begins(question, b": rung ") {
+        show_said(ask_rung(a, n.of[0], n.of[1], n.of[2]));
+        return;
     }
-    if Arena::PLACES <= a.head.count {
-        return a;
+    if begins(question, b": ladder ") {
+        show_said(ask_ladder(a, n.of[0], n.of[1]));
+        return;
     }
-    with_chunk(
-        a,
-        Chunk {
-            start: at,
-            size: n,
-            pointer: at,
-        },
-    )
+    if begins(question, b": place ") {
+        show_said(ask_place(a, n.of[0], n.of[1]));
+    }
 }
 
-// m on both sides of a power and of a page; then requests that decide m themselves, and two that the rule isn't asked of.
-fn usable_sizes() {
-    show_usable(0, 0, 1);
-    show_usable(1, 0, 1);
-    show_usable(448, 0, 1);
-    show_usable(449, 0, 1);
-    show_usable(4032, 0, 1);
-    show_usable(4033, 0, 1);
-    show_usable(4095, 0, 1);
-    show_usable(4096, 0, 1);
-    show_usable(448, 448, 1);
-    show_usable(448, 449, 1);
-    show_usable(448, 1, 512);
-    show_usable(448, 1, 4096);
-    show_usable(448, 1073741824, 1);
-    show_usable(448, 1073741825, 1);
-    show_usable(448, 1, 3);
+// Lines that begin otherwise than a question are skipped.
+fn run_line(line: &[u8]) {
+    if begins(line, b"usable ") {
+        text(line);
+        let n = read_numbers(line);
+        show_said(ask_usable(n.of[0], n.of[1], n.of[2]));
+        return;
+    }
+    if begins(line, b"region ") {
+        text(line);
+        let colon = find(line, 0, b':');
+        show_question(record_of(read_numbers(&line[..colon])), &line[colon..]);
+    }
 }
 
-// Limits below the default size, with nothing held.
-fn small_limits() {
-    let new = created(65536, 0);
-    show_rung(under(new, 100), 448, 64, 1);
-    show_rung(under(new, 100), 224, 64, 1);
-    show_rung(under(new, 100), 112, 64, 1);
-    show_rung(under(new, 100), 56, 64, 1);
-    show_ladder(under(new, 100), 64, 1);
-    show_rung(under(new, 200), 112, 64, 1);
-    show_ladder(under(new, 200), 64, 1);
-    show_ladder(under(new, 64), 40, 1);
-    show_ladder(under(new, 64), 64, 1);
-    show_ladder(under(new, 10), 0, 1);
-    show_ladder(under(new, 1), 0, 1);
-    show_ladder(under(new, 0), 0, 1);
-    show_ladder(under(created(40, 0), 10), 0, 4096);
-    show_ladder(under(created(48, 0), 10), 0, 4096);
-}
-
-// Regions that just hold a first chunk, limits around what a second one needs, and the largest alignment and size.
-fn first_and_second_chunks() {
-    show_ladder(created(495, 0), 1, 1);
-    show_ladder(created(496, 0), 1, 1);
-    let full = created(65536, 448);
-    show_ladder(full, 500, 1);
-    show_ladder(under(full, 1407), 500, 1);
-    show_ladder(under(full, 1408), 500, 1);
-    show_ladder(under(full, 448), 500, 1);
-    show_ladder(under(full, 100), 500, 1);
-    show_ladder(created(65536, 0), 1, 4096);
-    show_ladder(full, 1, 4096);
-    show_ladder(created(1073741824, 0), 1073741824, 1);
-}
-
-// Two chunks of 448 with 992 bytes free between them and 1,008 after them, taken in either order.
-fn places() {
-    let apart = holding(created(2992, 448), 448, 1488);
-    show_place(apart, 448, 16);
-    show_place(apart, 944, 16);
-    show_place(apart, 944, 32);
-    show_place(apart, 960, 16);
-    show_place(apart, 976, 16);
-    show_place(apart, 448, 512);
-    show_place(apart, 448, 1024);
-    show_place(apart, 448, 4096);
-    let turned = holding(holding(created(2992, 0), 448, 1488), 448, 0);
-    show_place(turned, 944, 16);
-    show_place(turned, 960, 16);
+fn run_lines(table: &[u8]) {
+    let mut from = 0;
+    let mut left = table.len();
+    while 0 < left {
+        let end = find(table, from, b'\n');
+        let start = lesser(from, end);
+        run_line(&table[start..end]);
+        from = std::num::wrapping_add_usize(end, 1);
+        left = if from < table.len() { left - 1 } else { 0 };
+    }
 }
 
 fn main() {
-    usable_sizes();
-    small_limits();
-    first_and_second_chunks();
-    places();
+    let mut table = io::large_buffer();
+    let n = io::read_full(libc::STDIN_FILENO, &mut table);
+    run_lines(&table[..n]);
 }
