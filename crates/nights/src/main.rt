@@ -15,18 +15,23 @@ use crate::ways::run_cut;
 // The longest file is a header, a record of 65,535 bytes and some more.
 const FILE: usize = 131072;
 
-// The way of running it whose text is not as it should be, and the first byte of the text that isn't.
-enum Verdict {
-    Same,
-    WholeDiffers(usize),
-    BytesDiffer(usize),
-    // After the place of the cut.
-    CutDiffers(usize, usize),
-}
-
 enum Text {
     Same,
+    // The first byte that is not as it should be.
     Differs(usize),
+}
+
+// How many cuts give another text; of the first of them its place, and the first byte of its text that is not as it should be.
+struct Cuts {
+    differ: usize,
+    at: usize,
+    place: usize,
+}
+
+struct Verdict {
+    whole: Text,
+    by_bytes: Text,
+    cuts: Cuts,
 }
 
 fn held_to(lines: &[u8], output: &[u8], written: usize) -> Text {
@@ -41,29 +46,50 @@ fn held_to(lines: &[u8], output: &[u8], written: usize) -> Text {
     Text::Same
 }
 
-fn judge_cuts(file: &[u8], lines: &[u8], output: &mut [u8]) -> Verdict {
-    for cut in 0..file.len() {
-        let written = run_cut(file, cut, output);
-        let text = held_to(lines, output, written);
-        if let Text::Differs(place) = text {
-            return Verdict::CutDiffers(cut, place);
+fn with_cut(cuts: Cuts, cut: usize, text: Text) -> Cuts {
+    match text {
+        Text::Same => cuts,
+        Text::Differs(place) => {
+            if cuts.differ == 0 {
+                return Cuts {
+                    differ: 1,
+                    at: cut,
+                    place,
+                };
+            }
+            Cuts {
+                differ: std::num::wrapping_add_usize(cuts.differ, 1),
+                at: cuts.at,
+                place: cuts.place,
+            }
         }
     }
-    Verdict::Same
+}
+
+fn judge_cuts(file: &[u8], lines: &[u8], output: &mut [u8]) -> Cuts {
+    let mut cuts = Cuts {
+        differ: 0,
+        at: 0,
+        place: 0,
+    };
+    for cut in 0..file.len() {
+        let written = run_cut(file, cut, output);
+        cuts = with_cut(cuts, cut, held_to(lines, output, written));
+    }
+    cuts
 }
 
 fn judge(file: &[u8], lines: &[u8], output: &mut [u8]) -> Verdict {
-    let whole = run_cut(file, file.len(), output);
-    let at_once = held_to(lines, output, whole);
-    if let Text::Differs(place) = at_once {
-        return Verdict::WholeDiffers(place);
-    }
+    let at_once = run_cut(file, file.len(), output);
+    let whole = held_to(lines, output, at_once);
     let written = run_by_bytes(file, output);
     let by_bytes = held_to(lines, output, written);
-    if let Text::Differs(place) = by_bytes {
-        return Verdict::BytesDiffer(place);
+    let cuts = judge_cuts(file, lines, output);
+    Verdict {
+        whole,
+        by_bytes,
+        cuts,
     }
-    judge_cuts(file, lines, output)
 }
 
 fn say(text: &[u8]) {
@@ -74,29 +100,53 @@ fn say_number(n: usize) {
     io::print_decimal(libc::STDOUT_FILENO, n as u64);
 }
 
-fn say_differing(way: &[u8], place: usize) {
-    say(way);
-    say(b" differs at byte ");
-    say_number(place);
-    say(b"\n");
+// Answers whether it is the same.
+fn report_text(name: &[u8], way: &[u8], text: Text) -> bool {
+    match text {
+        Text::Same => true,
+        Text::Differs(place) => {
+            say(name);
+            say(way);
+            say(b" differs at byte ");
+            say_number(place);
+            say(b"\n");
+            false
+        }
+    }
+}
+
+fn report_cuts(name: &[u8], cuts: Cuts) -> bool {
+    if cuts.differ == 0 {
+        return true;
+    }
+    say(name);
+    say(b": ");
+    say_number(cuts.differ);
+    say(b" cuts differ, the first at ");
+    say_number(cuts.at);
+    report_text(b"", b", which", Text::Differs(cuts.place))
 }
 
 fn report(name: &[u8], lines: &[u8], verdict: Verdict) {
+    let at_once = verdict.whole;
+    let in_bytes = verdict.by_bytes;
+    let cut = verdict.cuts;
+    let whole = report_text(name, b": the whole file", at_once);
+    let by_bytes = report_text(name, b": a byte more at a time", in_bytes);
+    let cuts = report_cuts(name, cut);
+    if !whole {
+        return;
+    }
+    if !by_bytes {
+        return;
+    }
+    if !cuts {
+        return;
+    }
     say(name);
     say(b": ");
-    match verdict {
-        Verdict::Same => {
-            say_number(count_lines(lines));
-            say(b" lines\n");
-        }
-        Verdict::WholeDiffers(place) => say_differing(b"the whole file", place),
-        Verdict::BytesDiffer(place) => say_differing(b"a byte more at a time", place),
-        Verdict::CutDiffers(cut, place) => {
-            say(b"cut at ");
-            say_number(cut);
-            say_differing(b" it", place);
-        }
-    }
+    say_number(count_lines(lines));
+    say(b" lines\n");
 }
 
 // Answers whether there was one.

@@ -1,16 +1,16 @@
--- `nights::judge_cuts` is safe and ends: the cut goes up to the file's end. Assumes nothing.
+-- `nights::judge_cuts` is safe and ends: the cut goes up to the end of the file. Assumes nothing.
 use mathlib.Core.Path.{_≡_}
 use Prim.Native.Nat.{_-_}
-use borrow.Author.Needs.{needs}
 use lib.ListN.{length}
+use borrow.Author.Needs.{needs}
 use Rattle.nights.proofs.judge_cuts.Statement.{statement}
 use Rattle.nights.proofs.judge_cuts.Tie as tie
 
 abbrev Inv-loop : tie.InvT-loop
-Inv-loop file lines output₀ cut₀ cut-end output cut = length output ≡ length output₀
+Inv-loop file lines output₀ cuts₀ cut₀ cut-end output cuts cut = length output ≡ length output₀
 
 abbrev μ-loop : tie.MeasureT-loop
-μ-loop file lines output₀ cut₀ cut-end output cut = cut-end - cut
+μ-loop file lines output₀ cuts₀ cut₀ cut-end output cuts cut = cut-end - cut
 
 loop-holds : tie.Need-loop-holds Inv-loop μ-loop
 loop-holds c = search needs
@@ -21,17 +21,8 @@ run-cut-requires c κs = search needs
 held-to-requires : tie.Need-held-to-requires Inv-loop μ-loop
 held-to-requires c κs = search needs
 
-enum-known-text : tie.Need-enum-known-text Inv-loop μ-loop
-enum-known-text c = search needs
-
-same-length : tie.Need-same-length Inv-loop μ-loop
-same-length c = search needs
-
-returns : tie.Need-returns Inv-loop μ-loop
-returns c = search needs
-
-enum-told : tie.Need-enum-told Inv-loop μ-loop
-enum-told c = search needs
+with-cut-requires : tie.Need-with-cut-requires Inv-loop μ-loop
+with-cut-requires c κs = search needs
 
 add-cut : tie.Need-add-cut Inv-loop μ-loop
 add-cut c = search needs
@@ -42,11 +33,11 @@ loop-less c = search needs
 loop-again : tie.Need-loop-again Inv-loop μ-loop
 loop-again c = search needs
 
-same-length-2 : tie.Need-same-length-2 Inv-loop μ-loop
-same-length-2 c = search needs
+same-length : tie.Need-same-length Inv-loop μ-loop
+same-length c = search needs
 
-returns-2 : tie.Need-returns-2 Inv-loop μ-loop
-returns-2 c = search needs
+returns : tie.Need-returns Inv-loop μ-loop
+returns c = search needs
 
 pub judge-cuts-spec : {M : Type 1} → statement M
 judge-cuts-spec =
@@ -57,12 +48,9 @@ judge-cuts-spec =
     loop-holds
     run-cut-requires
     held-to-requires
-    enum-known-text
-    same-length
-    returns
-    enum-told
+    with-cut-requires
     add-cut
     loop-less
     loop-again
-    same-length-2
-    returns-2)
+    same-length
+    returns)
