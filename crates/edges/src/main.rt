@@ -3,6 +3,7 @@ mod blocks;
 mod creating;
 mod limits;
 mod moving;
+mod planting;
 mod refusing;
 mod rewinding;
 mod say;
@@ -16,4 +17,5 @@ fn main() {
     limits::run();
     moving::run();
     rewinding::run();
+    planting::run(steps::create(16384, 1, 448));
 }

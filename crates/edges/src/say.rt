@@ -1,17 +1,10 @@
 // How a line is written.
 use arena::Answer;
 use arena::Arena;
-use arena::Refusal;
 use calls::Given;
-
-pub fn text(t: &[u8]) {
-    io::write_all(1, t);
-}
-
-pub fn number(before: &[u8], n: usize) {
-    text(before);
-    io::print_decimal(1, n as u64);
-}
+use trial::say::number;
+use trial::say::refusal_number;
+use trial::say::text;
 
 // A zero byte, which no text of this program has, is shown as 0.
 pub fn show_byte(b: u8) {
@@ -20,20 +13,6 @@ pub fn show_byte(b: u8) {
         text(b"0");
     } else {
         text(&one);
-    }
-}
-
-// Document 01's number of a refusal.
-fn refusal_number(r: Refusal) -> usize {
-    match r {
-        Refusal::State => 1,
-        Refusal::Region => 2,
-        Refusal::Size => 3,
-        Refusal::Align => 4,
-        Refusal::Block => 5,
-        Refusal::Direction => 6,
-        Refusal::Token => 7,
-        Refusal::Room => 8,
     }
 }
 

@@ -1,18 +1,21 @@
 // Each call of document 01 as a step: it prints what is asked, what was answered and what the arena is then, and gives the store after it.
-use crate::say::number;
 use crate::say::show_answer;
 use crate::say::show_given;
 use crate::say::show_record;
-use crate::say::text;
 use crate::say::was_done;
 use crate::say::was_given;
 use crate::store::Store;
 use crate::store::put_bytes;
+use crate::store::same_outside;
 use crate::store::show_after;
+use crate::store::show_others;
 use arena::Arena;
 use arena::Outcome;
 use calls::Allocation;
+use calls::Given;
 use calls::Token;
+use trial::say::number;
+use trial::say::text;
 
 // The region's bytes are full stops at first.
 pub fn create(region: usize, minimum: usize, capacity: usize) -> Store {
@@ -31,7 +34,15 @@ pub fn create(region: usize, minimum: usize, capacity: usize) -> Store {
     }
 }
 
-fn given(s: Store, got: Allocation, bytes: [u8; 16384]) -> Store {
+// A served call may write as many bytes from its block's offset on.
+fn show_written(answer: Given, before: [u8; 16384], after: [u8; 16384], size: usize) {
+    if let Given::At(offset) = answer {
+        let end = std::num::wrapping_add_usize(offset, size);
+        show_others(same_outside(&before, &after, offset, end));
+    }
+}
+
+fn given(s: Store, got: Allocation, bytes: [u8; 16384], size: usize) -> Store {
     let answer = got.answer;
     let a = got.arena;
     let after = Store {
@@ -40,6 +51,8 @@ fn given(s: Store, got: Allocation, bytes: [u8; 16384]) -> Store {
         bytes: bytes,
     };
     show_given(answer);
+    let before = s.bytes;
+    show_written(answer, before, bytes, size);
     show_after(was_given(answer), s, after);
     after
 }
@@ -65,7 +78,7 @@ pub fn allocate(s: Store, size: usize, align: usize) -> Store {
     let mut b = [46u8; 16384];
     let n = put_bytes(&mut b, &s.bytes, s.lent);
     let got = calls::allocate::allocate(a, &b[..n], size, align);
-    given(s, got, b)
+    given(s, got, b, 0)
 }
 
 pub fn copy_in(s: Store, source: &[u8], align: usize) -> Store {
@@ -76,7 +89,7 @@ pub fn copy_in(s: Store, source: &[u8], align: usize) -> Store {
     let mut b = [46u8; 16384];
     let n = put_bytes(&mut b, &s.bytes, s.lent);
     let got = calls::write::copy_in(a, &mut b[..n], source, align);
-    given(s, got, b)
+    given(s, got, b, source.len())
 }
 
 pub fn fill_in(s: Store, size: usize, align: usize, value: u8) -> Store {
@@ -86,7 +99,7 @@ pub fn fill_in(s: Store, size: usize, align: usize, value: u8) -> Store {
     let mut b = [46u8; 16384];
     let n = put_bytes(&mut b, &s.bytes, s.lent);
     let got = calls::write::fill_in(a, &mut b[..n], size, align, value);
-    given(s, got, b)
+    given(s, got, b, size)
 }
 
 fn show_change(offset: usize, old: usize, old_align: usize, new: usize, new_align: usize) {
@@ -111,7 +124,7 @@ pub fn grow(
     let mut b = [46u8; 16384];
     let n = put_bytes(&mut b, &s.bytes, s.lent);
     let got = reshape::grow::grow(a, &mut b[..n], offset, old, old_align, new, new_align);
-    given(s, got, b)
+    given(s, got, b, new)
 }
 
 pub fn grow_zeroed(
@@ -128,7 +141,7 @@ pub fn grow_zeroed(
     let mut b = [46u8; 16384];
     let n = put_bytes(&mut b, &s.bytes, s.lent);
     let got = reshape::grow::grow_zeroed(a, &mut b[..n], offset, old, old_align, new, new_align);
-    given(s, got, b)
+    given(s, got, b, new)
 }
 
 pub fn shrink(
@@ -145,7 +158,7 @@ pub fn shrink(
     let mut b = [46u8; 16384];
     let n = put_bytes(&mut b, &s.bytes, s.lent);
     let got = reshape::shrink::shrink(a, &mut b[..n], offset, old, old_align, new, new_align);
-    given(s, got, b)
+    given(s, got, b, new)
 }
 
 pub fn resize(s: Store, offset: usize, old: usize, align: usize, new: usize) -> Store {
@@ -157,7 +170,7 @@ pub fn resize(s: Store, offset: usize, old: usize, align: usize, new: usize) -> 
     let mut b = [46u8; 16384];
     let n = put_bytes(&mut b, &s.bytes, s.lent);
     let got = reshape::resize::resize(a, &mut b[..n], offset, old, align, new);
-    given(s, got, b)
+    given(s, got, b, new)
 }
 
 pub fn free(s: Store, offset: usize, size: usize, align: usize) -> Store {
@@ -172,6 +185,26 @@ fn set_each(part: &mut [u8], value: u8) {
     for i in 0..part.len() {
         part[i] = value;
     }
+}
+
+// Whether a lend leaves every byte as it is.
+fn lends_only(s: Store, offset: usize, size: usize, align: usize) -> bool {
+    let a = s.arena;
+    let mut b = [46u8; 16384];
+    let n = put_bytes(&mut b, &s.bytes, s.lent);
+    calls::lend::lend(a, &mut b[..n], offset, size, align);
+    let before = s.bytes;
+    same_outside(&before, &b, 0, 0)
+}
+
+fn show_lent(s: Store, after: [u8; 16384], offset: usize, size: usize, align: usize) {
+    if !lends_only(s, offset, size, align) {
+        show_others(false);
+        return;
+    }
+    let before = s.bytes;
+    let end = std::num::wrapping_add_usize(offset, size);
+    show_others(same_outside(&before, &after, offset, end));
 }
 
 // What is lent is written on.
@@ -193,6 +226,9 @@ pub fn lend(s: Store, offset: usize, size: usize, align: usize, value: u8) -> St
     };
     show_answer(answer);
     number(b", bytes lent ", count);
+    if was_done(answer) {
+        show_lent(s, b, offset, size, align);
+    }
     show_after(was_done(answer), s, after);
     after
 }
@@ -216,6 +252,7 @@ pub fn allocate_with_token(s: Store, size: usize, align: usize) -> Store {
             arena: held,
         },
         b,
+        0,
     )
 }
 

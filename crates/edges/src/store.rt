@@ -2,11 +2,12 @@
 ghost use mathlib.Core.Path.{_≡_};
 ghost use Prim.Native.Nat.{_≤_};
 ghost use lib.ListN.{length, take};
-use crate::say::number;
 use crate::say::show_byte;
 use crate::say::show_current;
-use crate::say::text;
 use arena::Arena;
+use trial::row::are_same;
+use trial::say::number;
+use trial::say::text;
 
 // The first lent bytes are the region.
 pub struct Store {
@@ -70,65 +71,36 @@ pub fn littered(s: Store) -> Store {
     }
 }
 
-fn same_column<'a>(x: &'a [usize; 32], y: &'a [usize; 32]) -> bool {
-    let mut same = true;
-    for i in 0..32 {
-        if x[i] != y[i] {
-            same = false;
-        }
+fn is_between(i: usize, from: usize, to: usize) -> bool {
+    if i < from {
+        return false;
     }
-    same
+    i < to
 }
 
-fn same_bytes<'a>(x: &'a [u8; 16384], y: &'a [u8; 16384]) -> bool {
+// Every byte is the same, but for those from an offset to another, which the call may write.
+pub fn same_outside<'a>(x: &'a [u8; 16384], y: &'a [u8; 16384], from: usize, to: usize) -> bool {
     let mut same = true;
     for i in 0..16384 {
         if x[i] != y[i] {
-            same = false;
+            if !is_between(i, from, to) {
+                same = false;
+            }
         }
     }
     same
 }
 
-fn same_head(x: Arena, y: Arena) -> bool {
-    if x.head.region != y.head.region {
-        return false;
-    }
-    if x.head.minimum != y.head.minimum {
-        return false;
-    }
-    if x.head.limited != y.head.limited {
-        return false;
-    }
-    if x.head.limit != y.head.limit {
-        return false;
-    }
-    x.head.count == y.head.count
-}
-
-fn same_record(x: Arena, y: Arena) -> bool {
-    if !same_head(x, y) {
-        return false;
-    }
-    if !same_column(&x.starts, &y.starts) {
-        return false;
-    }
-    if !same_column(&x.sizes, &y.sizes) {
-        return false;
-    }
-    same_column(&x.pointers, &y.pointers)
-}
-
 // The record handed back is the one handed in, number by number, and so is each byte.
-fn same_store(x: Store, y: Store) -> bool {
+pub fn same_store(x: Store, y: Store) -> bool {
     let a = x.arena;
     let b = y.arena;
-    if !same_record(a, b) {
+    if !are_same(a, b) {
         return false;
     }
     let p = x.bytes;
     let q = y.bytes;
-    same_bytes(&p, &q)
+    same_outside(&p, &q, 0, 0)
 }
 
 // The end of a line. A refused call must leave everything as it was.
@@ -142,6 +114,15 @@ pub fn show_after(served: bool, before: Store, after: Store) {
         text(b", unchanged\n");
     } else {
         text(b", CHANGED\n");
+    }
+}
+
+// Of a served call: whether the bytes that it may not write are as they were.
+pub fn show_others(same: bool) {
+    if same {
+        text(b", other bytes unchanged");
+    } else {
+        text(b", OTHER BYTES CHANGED");
     }
 }
 
