@@ -88,31 +88,59 @@ answer ask(miravoly_arena *a, uint8_t *region, const request *q) {
 
 /* ---- document 01's rules that the checks need ---- */
 
-static bool sound(const miravoly_arena *a) {
-    uint64_t m = a->minimum;
-    if (m != 1 && m != 2 && m != 4 && m != 8 && m != 16)
-        return false;
-    if (a->region > MIRAVOLY_LARGEST_REGION || a->count > MIRAVOLY_MOST_CHUNKS)
-        return false;
-    if (a->limited > 1 || (a->limited == 0 && a->limit != 0))
-        return false;
+typedef unsigned __int128 wide; /* a sum that can't wrap */
+
+/* The clauses of "Sound", in the order of its words. */
+enum clause {
+    MINIMUM,
+    REGION,
+    LIMITED,
+    LIMIT,
+    COUNT,
+    START,
+    SIZE,
+    WITHIN,
+    FROM_START,
+    TO_END,
+    ON_MINIMUM,
+    APART,
+    UNUSED_START,
+    UNUSED_SIZE,
+    UNUSED_POINTER,
+    CLAUSES
+};
+
+/* A bit for each clause that fails. */
+static unsigned unsound_by(const miravoly_arena *a) {
+    const uint64_t m = a->minimum;
+    unsigned bits = 0;
+    bits |= (unsigned)(m != 1 && m != 2 && m != 4 && m != 8 && m != 16) << MINIMUM;
+    bits |= (unsigned)(a->region > MIRAVOLY_LARGEST_REGION) << REGION;
+    bits |= (unsigned)(a->limited > 1) << LIMITED;
+    bits |= (unsigned)(a->limited == 0 && a->limit != 0) << LIMIT;
+    bits |= (unsigned)(a->count > MIRAVOLY_MOST_CHUNKS) << COUNT;
     for (uint64_t i = 0; i < MIRAVOLY_MOST_CHUNKS; i++) {
-        uint64_t start = a->starts[i], n = a->sizes[i], pointer = a->pointers[i];
+        const uint64_t start = a->starts[i], pointer = a->pointers[i];
+        const wide end = (wide)start + a->sizes[i];
         if (i >= a->count) {
-            if (start || n || pointer)
-                return false;
+            bits |= (unsigned)(start != 0) << UNUSED_START;
+            bits |= (unsigned)(a->sizes[i] != 0) << UNUSED_SIZE;
+            bits |= (unsigned)(pointer != 0) << UNUSED_POINTER;
             continue;
         }
-        if (start % 16 || n % 16 || start > a->region || n > a->region || start + n + 48 > a->region)
-            return false;
-        if (pointer < start || pointer > start + n || pointer % m)
-            return false;
+        bits |= (unsigned)(start % 16 != 0) << START;
+        bits |= (unsigned)(a->sizes[i] % 16 != 0) << SIZE;
+        bits |= (unsigned)(end + 48 > a->region) << WITHIN;
+        bits |= (unsigned)(pointer < start) << FROM_START;
+        bits |= (unsigned)(pointer > end) << TO_END;
+        bits |= (unsigned)(m != 0 && pointer % m != 0) << ON_MINIMUM;
         for (uint64_t j = 0; j < i; j++)
-            if (start < a->starts[j] + a->sizes[j] + 48 && a->starts[j] < start + n + 48)
-                return false;
+            bits |= (unsigned)(start < (wide)a->starts[j] + a->sizes[j] + 48 && a->starts[j] < end + 48) << APART;
     }
-    return true;
+    return bits;
 }
+
+bool sound(const miravoly_arena *a) { return unsound_by(a) == 0; }
 
 /* The region after a served call, from the region before it. */
 static void write_expected(uint8_t *region, const request *q, uint64_t at) {
@@ -343,31 +371,63 @@ static uint64_t odd_number(void) {
     }
 }
 
-/* Chunks in ascending places, sometimes too close together; where nothing is odd the record is sound. */
-void random_record(miravoly_arena *a) {
-    uint64_t *numbers = (uint64_t *)a;
+/* Chunks in any order of the table, many of which touch, in a region that may end where the last one does. */
+static void sound_record(miravoly_arena *a) {
+    const uint64_t wanted = below(4) == 0   ? below(33)
+                            : below(4) == 0 ? 32
+                                            : below(6),
+                   widest = LENGTH / 16 / (wanted + 1);
+    uint64_t at = below(2) ? 0 : 16 * below(2);
     memset(a, 0, sizeof *a);
-    if (below(8) == 0) {
-        scribble(a, sizeof *a);
-        return;
-    }
-    a->region = LENGTH;
     a->minimum = 1ull << below(5);
     a->limited = below(2);
     a->limit = a->limited ? odd_number() : 0;
-    uint64_t at = 16 * below(10), wanted = below(8) == 0 ? 32 : below(6);
     while (a->count < wanted) {
-        uint64_t n = 16 * below(wanted > 6 ? 2 : 30);
+        uint64_t n = below(2) ? 0 : 16 * below(widest), place = below(a->count + 1);
         if (at + n + 48 > LENGTH)
             break;
-        a->starts[a->count] = at;
-        a->sizes[a->count] = n;
-        a->pointers[a->count] = (at + below(n + 1)) / a->minimum * a->minimum;
-        a->count++;
-        at += n + (below(64) == 0 ? 32 : 48) + 16 * below(2);
+        for (uint64_t i = a->count++; i > place; i--) {
+            a->starts[i] = a->starts[i - 1];
+            a->sizes[i] = a->sizes[i - 1];
+            a->pointers[i] = a->pointers[i - 1];
+        }
+        a->starts[place] = at;
+        a->sizes[place] = n;
+        a->pointers[place] = at + (below(4) ? below(n + 1) / a->minimum * a->minimum : n);
+        at += n + 48;
+        a->region = at;
+        at += wanted > 8 || below(2) ? 0 : 16 * below(4);
     }
-    for (uint64_t edits = below(3) == 0 ? 1 + below(2) : 0; edits > 0; edits--)
-        numbers[below(2) ? below(5) : below(sizeof *a / 8)] = odd_number();
+    if (below(3))
+        a->region = LENGTH - (a->region < LENGTH - 20 ? below(20) : 0);
+}
+
+/* Changes one number that the clause speaks of. */
+static void change_one_number(miravoly_arena *a, enum clause clause) {
+    const uint64_t i = a->count ? below(a->count) : 0, unused = a->count < 32 ? a->count + below(32 - a->count) : 31;
+    uint64_t *const places[CLAUSES] = {
+        &a->minimum,        &a->region,        &a->limited,          &a->limit,
+        &a->count,          &a->starts[i],     &a->sizes[i],         below(2) ? &a->region : &a->sizes[i],
+        &a->pointers[i],    &a->pointers[i],   &a->pointers[i],      below(2) ? &a->starts[i] : &a->sizes[i],
+        &a->starts[unused], &a->sizes[unused], &a->pointers[unused],
+    };
+    const uint64_t steps[] = {1, 8, 16, 32, 48, a->minimum}, by = steps[below(6)];
+    *places[clause] = below(4) == 0 ? odd_number() : below(2) ? *places[clause] + by : *places[clause] - by;
+}
+
+/* Any numbers at all, a sound record, or mostly one that is sound but for one number. */
+void random_record(miravoly_arena *a) {
+    const uint64_t kind = below(8);
+    const enum clause clause = below(CLAUSES);
+    if (kind == 0) {
+        scribble(a, sizeof *a);
+        return;
+    }
+    sound_record(a);
+    for (int tries = 0; kind > 3 && tries < 16 && unsound_by(a) != 1u << clause; tries++) {
+        sound_record(a);
+        change_one_number(a, clause);
+    }
 }
 
 /* Mostly near a chunk's pointer, so that many blocks are acceptable. */
@@ -383,7 +443,7 @@ static uint64_t some_align(void) { return below(16) == 0 ? odd_number() : 1ull <
 void random_request(request *q, entry e, const miravoly_arena *a) {
     q->entry = e;
     /* Never more than there is: the host must see to that. */
-    q->lent = e == CREATE ? odd_number() : below(16) == 0 ? below(LENGTH + 1) : LENGTH;
+    q->lent = e == CREATE ? odd_number() : below(16) == 0 ? below(LENGTH + 1) : a->region < LENGTH ? a->region : LENGTH;
     q->offset = some_offset(a);
     q->old = some_size();
     q->align = some_align();
@@ -396,11 +456,13 @@ void random_request(request *q, entry e, const miravoly_arena *a) {
 
 static void random_records(unsigned long turns) {
     static place p;
-    unsigned long asked = 0, unsound = 0, answered[9] = {0};
+    unsigned long asked = 0, unsound = 0, answered[9] = {0}, alone[CLAUSES] = {0};
     scribble(&p, sizeof p);
     for (unsigned long i = 0; i < turns; i++) {
         miravoly_arena record;
         random_record(&record);
+        for (int clause = 0; clause < CLAUSES; clause++)
+            alone[clause] += unsound_by(&record) == 1u << clause;
         for (entry e = 0; e < ENTRIES; e++) {
             request q;
             random_request(&q, e, &record);
@@ -417,6 +479,11 @@ static void random_records(unsigned long turns) {
     for (int r = 1; r <= 8; r++) {
         printf(" %lu", answered[r]);
         CHECK(answered[r] > 0);
+    }
+    printf("\nC: records that are unsound by one clause alone, in the order of its words:");
+    for (int clause = 0; clause < CLAUSES; clause++) {
+        printf(" %lu", alone[clause]);
+        CHECK(alone[clause] > turns / 100);
     }
     printf("\n");
     CHECK(answered[MIRAVOLY_STATE] == unsound);

@@ -72,6 +72,8 @@ extern uint8_t *source; /* TOO_LARGE zeros, but for the first bytes */
 
 answer ask(miravoly_arena *a, uint8_t *region, const request *q);
 
+bool sound(const miravoly_arena *a);
+
 /* Sound or not. */
 void random_record(miravoly_arena *a);
 

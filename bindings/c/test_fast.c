@@ -117,8 +117,9 @@ static void end(const char *kind) {
 
 /* ---- the tests ---- */
 
-/* Any record, numbers and bytes. */
+/* Any record, numbers and bytes; the sound entry too where the record is sound and the region its own. */
 void fast_entries(unsigned long turns) {
+    unsigned long by_sound = 0;
     begin();
     for (unsigned long i = 0; i < turns; i++) {
         miravoly_arena record;
@@ -128,9 +129,15 @@ void fast_entries(unsigned long turns) {
             random_request(&q, e, &record);
             plain.arena = other.arena = record;
             ask_both(ask_fast, &q);
+            if (sound(&record) && q.lent == record.region) {
+                plain.arena = other.arena = record;
+                ask_both(ask_sound, &q);
+                by_sound++;
+            }
         }
     }
-    end("fast");
+    end("fast or sound");
+    CHECK(by_sound > turns);
     CHECK(answered[MIRAVOLY_STATE] > 0 && answered[MIRAVOLY_REGION] > 0);
 }
 
