@@ -110,10 +110,15 @@ fn is_refused_by_every_call(arena: &mut Arena, block: Block) {
     );
     assert_eq!(refused(arena, |a| a.write(&block, b"")), Refusal::Block);
     let (record, region) = (*arena.record(), arena.region().to_vec());
-    let block = arena.grow(block, 20, 1).unwrap_err().given_back;
-    let block = arena.grow_zeroed(block, 20, 1).unwrap_err().given_back;
-    let block = arena.shrink(block, 1, 1).unwrap_err().given_back;
-    let block = arena.resize(block, 20).unwrap_err().given_back;
+    let given_back = |got: Result<Block, Refused<Block>>| {
+        let refused = got.unwrap_err();
+        assert_eq!(refused.refusal, Refusal::Block);
+        refused.given_back
+    };
+    let block = given_back(arena.grow(block, 20, 1));
+    let block = given_back(arena.grow_zeroed(block, 20, 1));
+    let block = given_back(arena.shrink(block, 1, 1));
+    let block = given_back(arena.resize(block, 20));
     assert_eq!(arena.free(block).unwrap_err().refusal, Refusal::Block);
     assert_eq!((arena.record(), arena.region()), (&record, &region[..]));
 }
