@@ -1,6 +1,6 @@
 // Document 01 in plain Rust, written from its words and not from bumpalo's code: the third voice of the comparison.
 // In its order: refusals, sizing and placing, the calls. mistakes.txt names lines of this file.
-use crate::request::{pattern, Answer, Block, Chunk, Request, Side, Token, NO_TOKEN};
+use crate::request::{lay, pattern, Answer, Block, Chunk, Part, Request, Side, Token, NO_TOKEN};
 
 const FOOTER: usize = 48;
 const OVERHEAD: usize = 64;
@@ -8,6 +8,8 @@ const DEFAULT: usize = 448;
 const PAGE: usize = 4096;
 const PLACES: usize = 32;
 const MOST: usize = 1 << 30;
+// Up to so many places are looked at one by one.
+const FEW: usize = 65_536;
 
 const SIZE: u32 = 3;
 const ALIGN: u32 = 4;
@@ -138,9 +140,14 @@ impl Model {
         self.chunks.iter().all(|c| start + size + FOOTER <= c.start || end(c) + FOOTER <= start)
     }
 
-    // The multiple of a is looked for one by one: slow, and plainly the lowest.
+    // The multiples of a one by one: slow, and plainly the lowest. In a long region only 0 and the first multiple after each held chunk: the lowest is
+    // among these, since at the multiple before it a held chunk is in the way, and at it no longer.
     fn place(&self, size: usize, a: usize) -> Option<usize> {
         let last = self.region.len().checked_sub(size + FOOTER)?;
+        if last > FEW {
+            let after = self.chunks.iter().map(|c| up(end(c) + FOOTER, a));
+            return after.chain([0]).filter(|&start| start <= last && self.is_clear(start, size)).min();
+        }
         (0..=last).step_by(a).find(|&start| self.is_clear(start, size))
     }
 
@@ -191,7 +198,8 @@ impl Model {
 
     fn create(&mut self, minimum: usize, region: usize, capacity: usize, background: u8) -> Result<(), u32> {
         // A refused creation's record holds no chunk, minimum 1 and no limit; the lent bytes stay as they are.
-        *self = Model { region: (0..region).map(|i| pattern(background, i)).collect(), ..Model::new() };
+        *self = Model { region: vec![0; region], ..Model::new() };
+        lay(&mut self.region, background);
         allowed(&[capacity], &[])?;
         if ![1, 2, 4, 8, 16].contains(&minimum) {
             return Err(ALIGN);
@@ -360,6 +368,10 @@ fn done(_: ()) -> Answer {
 }
 
 impl Side for Model {
+    fn name(&self) -> &'static str {
+        "the model"
+    }
+
     fn ask(&mut self, request: &Request) -> (Answer, Token) {
         let token = self.token();
         if let Err(number) = tested(self.minimum, self.chunks.iter().rev().copied(), request) {
@@ -380,7 +392,21 @@ impl Side for Model {
         self.held_bytes()
     }
 
+    fn limit(&self) -> Option<u64> {
+        self.limit
+    }
+
+    // From pointer to end, newest first.
+    fn walk(&mut self, parts: &mut Vec<Part>) {
+        parts.clear();
+        parts.extend(self.chunks.iter().rev().map(|c| (c.pointer, end(c) - c.pointer)));
+    }
+
     fn bytes(&self) -> &[u8] {
         &self.region
+    }
+
+    fn bytes_mut(&mut self) -> &mut [u8] {
+        &mut self.region
     }
 }

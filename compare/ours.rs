@@ -1,25 +1,31 @@
 // Our program, which reads a tape of requests and writes a digest after each.
-use crate::model::Model;
-use crate::play::{Fault, Player, Tape, DIGEST};
+use crate::plant::Plant;
+use crate::play::{Fault, Player};
+use crate::request::Side;
 use crate::sequence::Sequence;
+use crate::tape::{Tape, DIGEST};
 use std::fs::File;
 use std::process::{Command, Stdio};
 
 pub struct Ours {
     program: String,
+    plant: Option<Plant>,
 }
 
 impl Ours {
-    pub fn new(program: String) -> Ours {
-        Ours { program }
+    pub fn new(program: String, plant: Option<Plant>) -> Ours {
+        Ours { program, plant }
     }
 
     fn digests(&self, tape: &Tape) -> Vec<u8> {
         let path = std::env::temp_dir().join(format!("compare-{}", std::process::id()));
         std::fs::write(&path, &tape.requests).expect("a temporary file");
         let input = File::open(&path).expect("the temporary file");
-        let output = Command::new(&self.program).stdin(input).stderr(Stdio::inherit()).output().expect("our program runs");
+        let mut output = Command::new(&self.program).stdin(input).stderr(Stdio::inherit()).output().expect("our program runs");
         std::fs::remove_file(&path).expect("the temporary file goes");
+        if let Some(plant) = &self.plant {
+            plant.spoil_digests(&mut output.stdout);
+        }
         output.stdout
     }
 
@@ -34,9 +40,9 @@ impl Ours {
     }
 
     // Plays one sequence to the Rust and to our program.
-    pub fn fault(&self, player: &mut Player, model: &mut Model, sequence: &Sequence) -> Option<Fault> {
+    pub fn fault(&self, player: &mut Player, model: &mut dyn Side, sequence: &Sequence) -> Option<Fault> {
         let mut tape = Tape::default();
-        if let Err(fault) = player.play(sequence, model, Some(&mut tape)) {
+        if let Err(fault) = player.play(sequence, &mut [model], Some(&mut tape)) {
             return Some(fault);
         }
         self.said(&tape)

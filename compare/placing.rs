@@ -1,15 +1,13 @@
 // The global allocator beneath bumpalo. While a call into bumpalo runs, and only then, a request is a chunk's: it is placed by document 01's
-// rule in one buffer, whose first byte is offset 0. Every other request goes to the system.
+// rule in one buffer, whose first byte is offset 0. Every other request goes to the system, which also lends the buffer.
 use std::alloc::{GlobalAlloc, Layout, System};
 use std::cell::UnsafeCell;
 
-pub const REGION: usize = 65_536;
 pub const FOOTER: usize = 48;
 const PLACES: usize = 32;
-
-// As strict as the largest alignment, so that an offset has an alignment exactly when its address has.
-#[repr(C, align(4096))]
-struct Buffer([u8; REGION]);
+const MOST: usize = 1 << 30;
+// The largest alignment: an offset has an alignment exactly when its address has.
+const STRICT: usize = 4096;
 
 #[derive(Clone, Copy)]
 struct Taken {
@@ -25,7 +23,8 @@ struct State {
     region: usize,
     count: usize,
     taken: [Taken; PLACES],
-    buffer: Buffer,
+    // As the system gave it: its first multiple of the largest alignment is offset 0.
+    buffer: *mut u8,
 }
 
 pub struct Placing(UnsafeCell<State>);
@@ -39,7 +38,7 @@ static PLACING: Placing = Placing(UnsafeCell::new(State {
     region: 0,
     count: 0,
     taken: [Taken { start: 0, size: 0, before: [0; FOOTER] }; PLACES],
-    buffer: Buffer([0; REGION]),
+    buffer: std::ptr::null_mut(),
 }));
 
 fn state() -> &'static mut State {
@@ -72,22 +71,27 @@ unsafe impl GlobalAlloc for Placing {
         };
         let size = layout.size();
         let mut before = [0; FOOTER];
-        before.copy_from_slice(&s.buffer.0[start + size - FOOTER..start + size]);
+        before.copy_from_slice(&region()[start + size - FOOTER..start + size]);
         s.taken[s.count] = Taken { start, size, before };
         s.count += 1;
-        s.buffer.0.as_mut_ptr().add(start)
+        base().add(start)
+    }
+
+    // bumpalo never asks for these. The system gives the pages of a long region when they are touched.
+    unsafe fn alloc_zeroed(&self, layout: Layout) -> *mut u8 {
+        System.alloc_zeroed(layout)
     }
 
     // A chunk is known by its address. Its footer's place gets back what stood there, since ours never wrote in it.
     unsafe fn dealloc(&self, ptr: *mut u8, layout: Layout) {
         let s = state();
-        let offset = (ptr as usize).wrapping_sub(s.buffer.0.as_ptr() as usize);
-        if REGION <= offset {
+        let offset = (ptr as usize).wrapping_sub(base() as usize);
+        if s.region <= offset {
             return System.dealloc(ptr, layout);
         }
         let place = s.taken[..s.count].iter().position(|t| t.start == offset).expect("a held chunk");
         let t = s.taken[place];
-        s.buffer.0[t.start + t.size - FOOTER..t.start + t.size].copy_from_slice(&t.before);
+        region()[t.start + t.size - FOOTER..t.start + t.size].copy_from_slice(&t.before);
         s.taken.copy_within(place + 1..s.count, place);
         s.count -= 1;
     }
@@ -101,16 +105,32 @@ pub fn serving<T>(call: impl FnOnce() -> T) -> T {
     answer
 }
 
-pub fn lend(region: usize) {
-    assert!(region <= REGION && state().count == 0);
-    state().region = region;
+fn whole(region: usize) -> Layout {
+    Layout::from_size_align(region + STRICT, 1).unwrap()
 }
 
-pub fn region() -> &'static mut [u8] {
+// A new buffer of zeros.
+pub fn lend(region: usize) {
     let s = state();
-    &mut s.buffer.0[..s.region]
+    assert!(region <= MOST && s.count == 0);
+    unsafe {
+        if !s.buffer.is_null() {
+            System.dealloc(s.buffer, whole(s.region));
+        }
+        s.buffer = System.alloc_zeroed(whole(region));
+    }
+    assert!(!s.buffer.is_null(), "a region of {region} bytes");
+    s.region = region;
 }
 
 pub fn base() -> *mut u8 {
-    state().buffer.0.as_mut_ptr()
+    let buffer = state().buffer;
+    buffer.wrapping_add(buffer.align_offset(STRICT))
+}
+
+pub fn region() -> &'static mut [u8] {
+    if state().buffer.is_null() {
+        return &mut [];
+    }
+    unsafe { std::slice::from_raw_parts_mut(base(), state().region) }
 }

@@ -1,81 +1,43 @@
-// Plays a sequence to the Rust and to another side, request by request, and compares them after each.
+// Plays a sequence to the Rust and to other sides, request by request, and compares them after each.
+use crate::agree::{first_difference, Seen};
 use crate::placing::FOOTER;
 use crate::real::Real;
 use crate::request::*;
 use crate::sequence::*;
+use crate::tape::{digest, weights, Tape};
+use std::ops::Range;
 
-// What the other side said or holds that the Rust doesn't.
+// What one side said or holds that another doesn't.
 pub struct Fault {
     pub said: String,
     pub requests: Vec<Request>,
 }
 
+// Every byte of a region up to this length is compared after each request, and of a longer one those where something may have gone wrong.
+pub const SHORT: usize = 65_536;
+// Every byte of a region up to these lengths is compared now and then, and at a sequence's end.
+const NOW_AND_THEN: usize = 1 << 20;
+const AT_THE_END: usize = 1 << 24;
+
 struct Live {
     block: Block,
     token: Option<Token>,
-    // What its owner last put there.
-    content: Vec<u8>,
+    // What its owner last put there: parts of the block, each with where it begins.
+    content: Vec<(usize, Vec<u8>)>,
 }
 
-// Requests as our program reads them, and the Rust's digest after each.
-#[derive(Default)]
-pub struct Tape {
-    pub requests: Vec<u8>,
-    pub digests: Vec<u8>,
-    // The answer with which each sequence begins.
-    pub starts: Vec<usize>,
-    said: Vec<Request>,
-}
-
-impl Tape {
-    pub fn answers(&self) -> usize {
-        self.digests.len() / DIGEST
+// The parts of a block that its owner writes in and looks at: the whole, or of a long one both ends and some places between.
+fn windows(size: usize, whole: usize) -> Vec<Range<usize>> {
+    if size <= whole {
+        return vec![0..size];
     }
-
-    // The requests up to the one that has this answer, owners' writes among them.
-    pub fn upto(&self, answer: usize) -> Vec<Request> {
-        let mut left = answer + 1;
-        let mut out = Vec::new();
-        for &request in &self.said {
-            if left == 0 {
-                break;
-            }
-            out.push(request);
-            left -= !matches!(request, Request::Write { .. }) as usize;
-        }
-        out
-    }
-
-    // The number of each answer's refusal, 0 where it is none.
-    pub fn refusals(&self) -> impl Iterator<Item = usize> + '_ {
-        self.digests.chunks(DIGEST).map(|d| if d[..3] == [128, 0, 0] { d[3] as usize } else { 0 })
-    }
-
-    pub fn push(&mut self, request: &Request) {
-        encode(request, &mut self.requests);
-        self.said.push(*request);
-    }
+    let mut parts = vec![0..512, size - 512..size];
+    parts.extend((1..8).map(|k| size / 8 * k..size / 8 * k + 64));
+    parts
 }
 
-pub const DIGEST: usize = 36;
-
-// The weight of each byte's place in the digest's sum.
-fn weights() -> Vec<u64> {
-    let next = |w: u64| (w * 1_103_515_245 + 12_345) % (1 << 31);
-    let mut w = 1;
-    (0..crate::placing::REGION)
-        .map(|_| {
-            let high = next(w);
-            w = next(high);
-            (high << 31) + w
-        })
-        .collect()
-}
-
-fn sum(weights: &[u64], bytes: &[u8], from: usize, to: usize) -> u64 {
-    let mixed = weights[from..to].iter().zip(&bytes[from..to]).map(|(&w, &b)| w ^ (b as u64 * 55_911_108_632_957_417));
-    mixed.fold(0, u64::wrapping_add)
-}
+// The longest source of a copy.
+const COPIED: usize = 1 << 22;
 
 pub struct Player {
     pub real: Real,
@@ -84,7 +46,18 @@ pub struct Player {
     pub refused: u64,
     pub full: u64,
     pub named: Named,
+    pub long: Long,
     pub weights: Vec<u64>,
+}
+
+// What no region of 65,536 bytes can show.
+#[derive(Default)]
+pub struct Long {
+    // The chunks taken that are longer than 65,488 bytes, and the longest.
+    pub chunks: u64,
+    pub longest: usize,
+    // The longest block that was carried.
+    pub carried: usize,
 }
 
 // The three places where document 01 says that the Rust may do otherwise: how often each was compared.
@@ -98,54 +71,57 @@ pub struct Named {
 // One sequence under way.
 struct Run<'a> {
     player: &'a mut Player,
-    other: &'a mut dyn Side,
+    // The first is compared with the Rust, but for the footers' places; the others with the first, there too.
+    others: &'a mut [&'a mut dyn Side],
     tape: Option<&'a mut Tape>,
     live: Vec<Live>,
     trail: Vec<Request>,
     was_reset: bool,
     limited: bool,
-    table: Vec<Chunk>,
-    theirs: Vec<Chunk>,
+    real: Seen,
+    seen: Vec<Seen>,
+    region: usize,
+    // How many bytes may still be carried, copied or filled.
+    budget: usize,
+    samples: Random,
 }
 
 impl Player {
     pub fn new() -> Player {
-        Player { real: Real::new(), requests: 0, refused: 0, full: 0, named: Named::default(), weights: weights() }
+        Player { real: Real::new(), requests: 0, refused: 0, full: 0, named: Named::default(), long: Long::default(), weights: weights() }
     }
 
-    pub fn play(&mut self, sequence: &Sequence, other: &mut dyn Side, tape: Option<&mut Tape>) -> Result<(), Fault> {
+    pub fn play<'a>(&'a mut self, s: &Sequence, others: &'a mut [&'a mut dyn Side], tape: Option<&'a mut Tape>) -> Result<(), Fault> {
         let mut tape = tape;
         if let Some(tape) = &mut tape {
             tape.starts.push(tape.answers());
         }
+        let seen = others.iter().map(|_| Seen::new()).collect();
         let mut run = Run {
             player: self,
-            other,
+            others,
             tape,
             live: Vec::new(),
             trail: Vec::new(),
             was_reset: false,
             limited: false,
-            table: Vec::new(),
-            theirs: Vec::new(),
+            real: Seen::new(),
+            seen,
+            region: s.region,
+            budget: s.budget,
+            samples: Random(s.region as u64),
         };
-        let result = run.all(sequence);
+        let result = run.all(s);
         result.map_err(|said| Fault { said, requests: run.trail })
     }
 }
 
-// The region's bytes but the footers' places of the held chunks.
-fn same_bytes(table: &[Chunk], ours: &[u8], theirs: &[u8]) -> bool {
-    let mut ends: Vec<usize> = table.iter().map(|c| c.start + c.size).collect();
-    ends.sort();
-    let mut from = 0;
-    for end in ends {
-        if ours[from..end] != theirs[from..end] {
-            return false;
-        }
-        from = end + FOOTER;
+fn bytes_agree(a: &dyn Side, b: &dyn Side, spans: &[Range<usize>], skipped: &[Range<usize>]) -> Result<(), String> {
+    let (ours, theirs) = (a.bytes(), b.bytes());
+    match first_difference(ours, theirs, spans, skipped) {
+        None => Ok(()),
+        Some(i) => Err(format!("byte {i}: {} {}, {} {}", a.name(), ours[i], b.name(), theirs[i])),
     }
-    ours[from..] == theirs[from..]
 }
 
 impl Run<'_> {
@@ -157,8 +133,10 @@ impl Run<'_> {
         for step in &s.steps {
             self.step(step)?;
         }
-        for i in 0..self.live.len() {
-            self.keeps(i)?;
+        self.all_keep()?;
+        // Of the longest regions every byte of one in 64.
+        if region <= AT_THE_END || background % 64 == 0 {
+            self.bytes_agree(&[0..region])?;
         }
         Ok(())
     }
@@ -166,74 +144,125 @@ impl Run<'_> {
     // A live block holds what its owner last put there, carried through every move.
     fn keeps(&self, i: usize) -> Result<(), String> {
         let Live { block, content, .. } = &self.live[i];
-        let now = &self.player.real.bytes()[block.offset..block.offset + content.len()];
-        if now == content {
+        let region = self.player.real.bytes();
+        let keeps = |(from, part): &(usize, Vec<u8>)| &region[block.offset + from..block.offset + from + part.len()] == part;
+        if content.iter().all(keeps) {
             Ok(())
         } else {
             Err(format!("the Rust's block {block:?} lost its owner's bytes"))
         }
     }
 
-    fn count(&mut self, request: &Request, answer: Answer, before: Option<Chunk>, count: usize) {
+    fn all_keep(&self) -> Result<(), String> {
+        (0..self.live.len()).try_for_each(|i| self.keeps(i))
+    }
+
+    fn count(&mut self, request: &Request, before: Option<Chunk>, count: usize) {
         match request {
             Request::Reset => self.was_reset = true,
             Request::SetLimit(_) => self.limited = true,
             Request::NoLimit => self.limited = false,
             _ => {}
         }
-        let refused = matches!(answer, Answer::Refused(_));
+        let held = self.real.chunks.len();
+        let refused = matches!(self.real.said.0, Answer::Refused(_));
         let named = &mut self.player.named;
-        named.ladder_after_reset += (self.was_reset && self.limited && (refused || self.table.len() > count)) as u64;
+        named.ladder_after_reset += (self.was_reset && self.limited && (refused || held > count)) as u64;
         named.resize_of_nothing += matches!(request, Request::Resize { block, .. } if block.size == 0) as u64;
         let took_a_chunk = |offset: usize, token: &Token| token.count < count && before.is_some_and(|c| c.pointer == offset);
         named.cancel_of_chunk += matches!(request, Request::Cancel { offset, token } if took_a_chunk(*offset, token)) as u64;
         self.player.requests += 1;
         self.player.refused += refused as u64;
-        self.player.full += (self.table.len() == 32) as u64;
+        self.player.full += (held == 32) as u64;
+        if held > count {
+            let taken = self.real.chunks[held - 1].size;
+            self.player.long.chunks += (taken > 65_488) as u64;
+            self.player.long.longest = self.player.long.longest.max(taken);
+        }
     }
 
-    // A request that both sides answer; nothing is skipped in the comparison but the footers.
+    // A request that all sides answer.
     fn ask(&mut self, request: Request) -> Result<(Answer, Token), String> {
         self.trail.push(request);
-        let (before, count) = (self.table.last().copied(), self.table.len());
-        let real = self.player.real.ask(&request);
-        let other = self.other.ask(&request);
-        self.player.real.chunks(&mut self.table);
-        self.other.chunks(&mut self.theirs);
-        self.count(&request, real.0, before, count);
-        let held = self.player.real.held();
-        if real != other {
-            return Err(format!("the Rust answers {real:?}, the other {other:?}"));
+        let (before, count) = (self.real.chunks.last().copied(), self.real.chunks.len());
+        self.real.ask(&mut self.player.real, &request);
+        for (seen, side) in self.seen.iter_mut().zip(self.others.iter_mut()) {
+            seen.ask(*side, &request);
         }
-        if self.table != self.theirs {
-            return Err(format!("the Rust holds {:?}, the other {:?}", self.table, self.theirs));
+        self.count(&request, before, count);
+        self.real.agrees(&self.seen[0])?;
+        for seen in &self.seen[1..] {
+            self.seen[0].agrees(seen)?;
         }
-        if held != self.other.held() {
-            return Err(format!("the Rust's held bytes are {held}, the other's {}", self.other.held()));
-        }
-        if !self.player.real.walk_agrees(&self.table) {
-            return Err("the Rust's walk gives other parts than its footers".to_string());
-        }
-        if !same_bytes(&self.table, self.player.real.bytes(), self.other.bytes()) {
-            return Err("the regions' bytes differ".to_string());
-        }
+        let spans = self.spans();
+        self.bytes_agree(&spans)?;
         if let Some(tape) = &mut self.tape {
             tape.push(&request);
-            let digest = digest(&self.player.weights, real, &self.table, held, self.player.real.bytes());
+            let digest = digest(&self.player.weights, self.real.said, &self.real.chunks, self.real.held, self.player.real.bytes());
             tape.digests.extend_from_slice(&digest);
         }
-        Ok(real)
+        Ok(self.real.said)
     }
 
+    fn bytes_agree(&self, spans: &[Range<usize>]) -> Result<(), String> {
+        let mut footers: Vec<Range<usize>> = self.real.chunks.iter().map(|c| c.start + c.size..c.start + c.size + FOOTER).collect();
+        footers.sort_by_key(|footer| footer.start);
+        bytes_agree(&self.player.real, self.others[0], spans, &footers)?;
+        self.others[1..].iter().try_for_each(|other| bytes_agree(self.others[0], *other, spans, &[]))
+    }
+
+    // Which bytes are compared after a request. In a long region: its end, the bytes around each chunk's start, end and pointer, every live
+    // block's windows, and samples.
+    fn spans(&mut self) -> Vec<Range<usize>> {
+        let region = self.region;
+        if region <= SHORT || region <= NOW_AND_THEN && self.samples.one_in(16) {
+            return vec![0..region];
+        }
+        let around = |at: usize, below: usize, above: usize| at.saturating_sub(below)..(at + above).min(region);
+        let mut spans = vec![region - 64..region];
+        for c in &self.real.chunks {
+            spans.extend([around(c.start, 64, 64), around(c.start + c.size, 64, FOOTER + 16), around(c.pointer, 64, 64)]);
+        }
+        for Live { block, .. } in &self.live {
+            let parts = windows(block.size, self.whole()).into_iter();
+            spans.extend(parts.map(|part| block.offset + part.start..block.offset + part.end));
+        }
+        spans.extend((0..16).map(|_| around(self.samples.below(region), 16, 16)));
+        spans
+    }
+
+    // The longest block of which every byte is the owner's business.
+    fn whole(&self) -> usize {
+        if self.region <= SHORT {
+            SHORT
+        } else {
+            8192
+        }
+    }
+
+    fn parts(&self, block: &Block) -> Vec<(usize, Vec<u8>)> {
+        let region = self.player.real.bytes();
+        let part = |w: Range<usize>| (w.start, region[block.offset + w.start..block.offset + w.end].to_vec());
+        windows(block.size, self.whole()).into_iter().map(part).collect()
+    }
+
+    // The owner writes a pattern in each window of its block.
     fn write(&mut self, i: usize, p: u8) {
-        let Live { block, ref mut content, .. } = self.live[i];
-        *content = (0..block.size).map(|i| pattern(p, i)).collect();
-        let request = Request::Write { block, pattern: p };
-        self.trail.push(request);
-        self.player.real.ask(&request);
-        self.other.ask(&request);
-        if let Some(tape) = &mut self.tape {
-            tape.push(&request);
+        let block = self.live[i].block;
+        self.live[i].content.clear();
+        for w in windows(block.size, self.whole()) {
+            let p = p.wrapping_add(w.start as u8);
+            self.live[i].content.push((w.start, (0..w.len()).map(|i| pattern(p, i)).collect()));
+            let part = Block { offset: block.offset + w.start, size: w.len(), align: if w.start == 0 { block.align } else { 1 } };
+            let request = Request::Write { block: part, pattern: p };
+            self.trail.push(request);
+            self.player.real.ask(&request);
+            for other in self.others.iter_mut() {
+                other.ask(&request);
+            }
+            if let Some(tape) = &mut self.tape {
+                tape.push(&request);
+            }
         }
     }
 
@@ -247,20 +276,26 @@ impl Run<'_> {
     }
 
     fn size(&self, size: Size) -> usize {
-        let room = self.table.last().map_or(0, |c| c.pointer - c.start);
+        let room = self.real.chunks.last().map_or(0, |c| c.pointer - c.start);
         match size {
             Size::Of(n) => n,
-            Size::Room(more) => room.saturating_add_signed(more),
+            Size::Room(more) => room.saturating_add_signed(more).min(1 << 30),
         }
     }
 
-    // The block's new place, with the bytes that it must hold there: the first ones are its owner's.
-    fn given(&mut self, block: Block, token: Option<Token>, kept: Vec<u8>, owner: Owner) -> Result<(), String> {
-        let now = self.player.real.bytes()[block.offset..block.offset + block.size].to_vec();
+    // Whether so many bytes may still be moved.
+    fn spend(&mut self, bytes: usize) -> bool {
+        let may = bytes <= self.budget;
+        self.budget -= if may { bytes } else { 0 };
+        may
+    }
+
+    // The block's new place, with the bytes that it must hold there.
+    fn given(&mut self, block: Block, token: Option<Token>, kept: Vec<(usize, Vec<u8>)>, owner: Owner) -> Result<(), String> {
         self.live.push(Live { block, token, content: kept });
         let last = self.live.len() - 1;
         self.keeps(last)?;
-        self.live[last].content = now;
+        self.live[last].content = self.parts(&block);
         if let Some(p) = owner {
             self.write(last, p);
         }
@@ -276,23 +311,39 @@ impl Run<'_> {
             How::Plain => (Request::Allocate { size, align }, Vec::new()),
             How::WithToken => (Request::AllocateWithToken { size, align }, Vec::new()),
             // The Rust copies whole elements, whose size is a multiple of their alignment.
-            _ if size % align != 0 || size > 65_536 => return Ok(()),
+            _ if size % align != 0 || size > COPIED || !self.spend(size) => return Ok(()),
             How::CopyIn(p) => (Request::CopyIn { size, align, pattern: p }, (0..size).map(|i| pattern(p, i)).collect()),
             How::Fill(value) => (Request::Fill { size, align, value }, vec![value; size]),
         };
         let (answer, token) = self.ask(request)?;
         if let Answer::At(offset) = answer {
             let token = matches!(how, How::WithToken).then_some(token);
-            self.given(Block { offset, size, align }, token, kept, owner)?;
+            self.given(Block { offset, size, align }, token, vec![(0, kept)], owner)?;
         }
         Ok(())
     }
 
+    // A block that keeps its first bytes, as many as it then has.
     fn moved(&mut self, i: usize, request: Request, size: usize, align: usize, owner: Owner) -> Result<(), String> {
+        let old = self.live[i].block.size;
+        let cleared = if let Request::GrowZeroed { .. } = request { size - old } else { 0 };
+        if !self.spend(old.min(size) + cleared) {
+            return Ok(());
+        }
         let (answer, _) = self.ask(request)?;
         if let Answer::At(offset) = answer {
+            if offset != self.live[i].block.offset {
+                self.player.long.carried = self.player.long.carried.max(old.min(size));
+            }
             let mut kept = self.live.remove(i).content;
-            kept.truncate(size);
+            kept.retain(|(from, _)| *from <= size);
+            for (from, part) in &mut kept {
+                part.truncate(size - *from);
+            }
+            // Cleared bytes, both ends of them.
+            if cleared > 0 {
+                kept.extend([(old, vec![0; cleared.min(512)]), (size - cleared.min(512), vec![0; cleared.min(512)])]);
+            }
             self.given(Block { offset, size, align }, None, kept, owner)?;
         }
         Ok(())
@@ -333,11 +384,13 @@ impl Run<'_> {
                 let tokens: Vec<usize> = (0..self.live.len()).filter(|&i| self.live[i].token.is_some()).collect();
                 if !tokens.is_empty() {
                     let i = tokens[tokens.len() - 1 - place % tokens.len()];
+                    self.keeps(i)?;
                     let gone = self.live.remove(i);
                     self.ask(Request::Cancel { offset: gone.block.offset, token: gone.token.unwrap() })?;
                 }
             }
             Step::Reset => {
+                self.all_keep()?;
                 self.live.clear();
                 self.ask(Request::Reset)?;
             }
@@ -359,28 +412,4 @@ impl Run<'_> {
         }
         Ok(())
     }
-}
-
-pub fn digest(weights: &[u64], (answer, token): (Answer, Token), table: &[Chunk], held: usize, bytes: &[u8]) -> [u8; DIGEST] {
-    let said = match answer {
-        Answer::At(offset) => offset,
-        Answer::Done => 0xFFFF_FFFF,
-        Answer::Refused(number) => 0x8000_0000 + number as usize,
-    };
-    let mut chunks: u64 = 0;
-    let mut total = sum(weights, bytes, 0, bytes.len());
-    for c in table {
-        for x in [c.start, c.size, c.pointer] {
-            chunks = (chunks * 1_000_003 + x as u64) % (1 << 32);
-        }
-        let end = c.start + c.size;
-        total = total.wrapping_sub(sum(weights, bytes, end, end + FOOTER));
-    }
-    let pointer = table.last().map_or(0, |c| c.pointer);
-    let mut out = [0; DIGEST];
-    for (i, x) in [said, table.len(), held, pointer, token.count, token.pointer, chunks as usize].into_iter().enumerate() {
-        out[4 * i..4 * i + 4].copy_from_slice(&(x as u32).to_be_bytes());
-    }
-    out[28..].copy_from_slice(&total.to_be_bytes());
-    out
 }

@@ -1,6 +1,6 @@
 // bumpalo itself, over the placing allocator.
 use crate::placing::{self, serving};
-use crate::request::{pattern, Answer, Block, Chunk, Request, Side, Token, NO_TOKEN, ROOM};
+use crate::request::{lay, pattern, Answer, Block, Chunk, Part, Request, Side, Token, NO_TOKEN, ROOM};
 use bumpalo::{probe, AllocErr, Bump};
 use std::alloc::{AllocError, Allocator, Layout};
 use std::collections::HashMap;
@@ -102,9 +102,7 @@ impl Real {
         self.bump = Any::None;
         self.tokens.clear();
         placing::lend(region);
-        for (i, b) in placing::region().iter_mut().enumerate() {
-            *b = pattern(background, i);
-        }
+        lay(placing::region(), background);
         self.bump = match minimum {
             1 => created(capacity, Any::One),
             2 => created(capacity, Any::Two),
@@ -129,16 +127,13 @@ impl Real {
     fn token(&self) -> Token {
         Token { count: self.newest_first().count(), pointer: self.newest_first().next().map_or(0, |c| c.pointer) }
     }
-
-    // The Rust's own walk gives each chunk's bytes from pointer to end, newest first.
-    pub fn walk_agrees(&mut self, table: &[Chunk]) -> bool {
-        let parts = table.iter().rev().map(|c| (c.pointer, c.start + c.size - c.pointer));
-        let base = placing::base() as usize;
-        each!(&mut self.bump, b => b.iter_allocated_chunks().map(|part| (part.as_ptr() as usize - base, part.len())).eq(parts), table.is_empty())
-    }
 }
 
 impl Side for Real {
+    fn name(&self) -> &'static str {
+        "the Rust"
+    }
+
     fn ask(&mut self, request: &Request) -> (Answer, Token) {
         use Request::*;
         let answer = match *request {
@@ -216,7 +211,21 @@ impl Side for Real {
         each!(&self.bump, b => b.allocated_bytes(), 0)
     }
 
+    fn limit(&self) -> Option<u64> {
+        each!(&self.bump, b => b.allocation_limit().map(|limit| limit as u64), None)
+    }
+
+    fn walk(&mut self, parts: &mut Vec<Part>) {
+        parts.clear();
+        let base = placing::base() as usize;
+        each!(&mut self.bump, b => parts.extend(b.iter_allocated_chunks().map(|part| (part.as_ptr() as usize - base, part.len()))), ());
+    }
+
     fn bytes(&self) -> &[u8] {
+        placing::region()
+    }
+
+    fn bytes_mut(&mut self) -> &mut [u8] {
         placing::region()
     }
 }

@@ -49,21 +49,40 @@ pub struct Chunk {
     pub pointer: usize,
 }
 
+// A part of the region, by its offset and length.
+pub type Part = (usize, usize);
+
 // A side that answers requests and shows its state.
 pub trait Side {
+    fn name(&self) -> &'static str;
     // The token is what an allocation with one recorded, and 0 and 0 otherwise.
     fn ask(&mut self, request: &Request) -> (Answer, Token);
     // In the order taken.
     fn chunks(&self, table: &mut Vec<Chunk>);
     fn held(&self) -> usize;
+    fn limit(&self) -> Option<u64>;
+    // What its walk gives.
+    fn walk(&mut self, parts: &mut Vec<Part>);
     fn bytes(&self) -> &[u8];
+    fn bytes_mut(&mut self) -> &mut [u8];
 }
 
 pub const NO_TOKEN: Token = Token { count: 0, pointer: 0 };
 
-// Byte i of an owner's pattern. It repeats only after 65,536 bytes, so that bytes moved too far are seen.
+// Byte i of an owner's pattern. It repeats only after 2^32 bytes, so that bytes moved too far are seen.
 pub fn pattern(p: u8, i: usize) -> u8 {
-    ((p as usize + 167 * i + i / 256) % 256) as u8
+    ((p as usize + 167 * i + i / 256 + 91 * (i >> 16) + 53 * (i >> 24)) % 256) as u8
+}
+
+// What stands in a region before an arena is made in it. In a long one only 64 pages have a pattern: the system gives the others when they are touched.
+pub fn lay(region: &mut [u8], background: u8) {
+    const PAGE: usize = 4096;
+    let step = region.len().div_ceil(64).next_multiple_of(PAGE).max(PAGE);
+    for (number, part) in region.chunks_mut(step).enumerate() {
+        for (i, b) in part.iter_mut().take(PAGE).enumerate() {
+            *b = pattern(background, number * step + i);
+        }
+    }
 }
 
 // A record of the tape has 24 bytes: code, one byte, two zeros, five numbers of 4 bytes, big-endian.

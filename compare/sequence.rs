@@ -7,6 +7,8 @@ pub struct Sequence {
     pub region: usize,
     pub capacity: usize,
     pub background: u8,
+    // How many bytes it may have carried, copied or filled; a step that would need more is left out.
+    pub budget: usize,
     pub steps: Vec<Step>,
 }
 
@@ -241,7 +243,7 @@ pub fn random(random: &mut Random) -> Sequence {
     for _ in 0..steps {
         list.push(maker.step());
     }
-    Sequence { minimum, region, capacity, background, steps: list }
+    Sequence { minimum, region, capacity, background, budget: usize::MAX, steps: list }
 }
 
 // Every list of so many steps from a small set, in a few regions, under a few limits, for each minimum.
@@ -304,6 +306,6 @@ pub fn exhaustive(length: usize) -> impl Iterator<Item = Sequence> {
         let mut list: Vec<Step> = FIRST[digit(FIRST.len())].map(Step::SetLimit).into_iter().collect();
         let (minimum, region) = (MINIMUMS[digit(MINIMUMS.len())], regions[digit(regions.len())]);
         list.extend((0..length).map(|_| steps[digit(steps.len())]));
-        Sequence { minimum, region, capacity: 0, background: 7, steps: list }
+        Sequence { minimum, region, capacity: 0, background: 7, budget: usize::MAX, steps: list }
     })
 }

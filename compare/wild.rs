@@ -2,9 +2,10 @@
 // so only the model and our program are compared.
 use crate::model::Model;
 use crate::ours::Ours;
-use crate::play::{digest, Fault, Tape};
+use crate::play::Fault;
 use crate::request::{Answer, Block, Request, Side, Token};
 use crate::sequence::{Random, LIMITS, MINIMUMS, REGIONS, SIZES};
+use crate::tape::{digest, Tape};
 
 const TOO_LARGE: [usize; 4] = [1 << 30, (1 << 30) + 1, 1 << 31, u32::MAX as usize];
 const NO_ALIGNS: [usize; 8] = [0, 3, 6, 17, 4095, 4097, 8192, u32::MAX as usize];
@@ -163,7 +164,7 @@ pub fn compare(ours: &Ours, weights: &[u64], seed: u64, count: usize) -> Result<
     while done < count {
         let mut lists = Vec::new();
         let mut batch = 0;
-        while batch < 100_000 {
+        while batch < count.min(100_000) {
             lists.push(requests(&mut random));
             batch += lists.last().unwrap().len();
         }
