@@ -139,6 +139,20 @@ fn of_resize(s: Store) {
     resize(s, 99999, 0, 1, 1073741824);
 }
 
+// A byte more than the region has is as wrong as a byte less.
+fn of_a_longer_region(s: Store) {
+    let long = lent(s, 497);
+    allocate(long, 1, 1);
+    allocate_with_token(long, 1, 1);
+    copy_in(long, b"abc", 1);
+    fill_in(long, 3, 1, b'x');
+    lend(long, 432, 16, 1, b'x');
+    grow(long, 432, 16, 1, 17, 1);
+    grow_zeroed(long, 432, 16, 1, 17, 1);
+    shrink(long, 432, 16, 1, 8, 1);
+    resize(long, 432, 16, 1, 17);
+}
+
 fn of_calls_lent_no_bytes(s: Store) {
     cancel(overcounted(s), 432, 34, 432);
     cancel(littered(s), 432, 2, 432);
@@ -164,5 +178,6 @@ pub fn run() {
     of_grow_zeroed(s);
     of_shrink(s);
     of_resize(s);
+    of_a_longer_region(allocate(create(496, 1, 0), 16, 1));
     of_calls_lent_no_bytes(s);
 }

@@ -50,15 +50,23 @@ fn show_chunk(start: usize, size: usize, pointer: usize) {
     number(b" pointer ", pointer);
 }
 
+// No limit has the number 0.
+fn show_limit(limited: usize, limit: usize) {
+    if limited == 1 {
+        number(b", limit ", limit);
+        return;
+    }
+    text(b", no limit");
+    if limit != 0 {
+        number(b" BUT ", limit);
+    }
+}
+
 // The whole record: its numbers, and the held chunks in the order taken.
 pub fn show_record(a: Arena) {
     number(b"; region ", a.head.region);
     number(b", minimum ", a.head.minimum);
-    if a.head.limited == 1 {
-        number(b", limit ", a.head.limit);
-    } else {
-        text(b", no limit");
-    }
+    show_limit(a.head.limited, a.head.limit);
     if a.head.count == 0 {
         text(b", no chunk");
     }

@@ -22,23 +22,14 @@ slice-aggregate-number-2 c = search needs
 number-requires-2 : tie.Need-number-requires-2 Inv-loop μ-loop
 number-requires-2 c κs = search needs
 
-slice-aggregate-number-3 : tie.Need-slice-aggregate-number-3 Inv-loop μ-loop
-slice-aggregate-number-3 c = search needs
-
-number-requires-3 : tie.Need-number-requires-3 Inv-loop μ-loop
-number-requires-3 c κs = search needs
+show-limit-requires : tie.Need-show-limit-requires Inv-loop μ-loop
+show-limit-requires c κs = search needs
 
 slice-aggregate-text : tie.Need-slice-aggregate-text Inv-loop μ-loop
 slice-aggregate-text c = search needs
 
 text-requires : tie.Need-text-requires Inv-loop μ-loop
 text-requires c κs = search needs
-
-slice-aggregate-text-2 : tie.Need-slice-aggregate-text-2 Inv-loop μ-loop
-slice-aggregate-text-2 c = search needs
-
-text-requires-2 : tie.Need-text-requires-2 Inv-loop μ-loop
-text-requires-2 c κs = search needs
 
 loop-holds : tie.Need-loop-holds Inv-loop μ-loop
 loop-holds c = search needs
@@ -73,11 +64,11 @@ loop-less c = search needs
 loop-again : tie.Need-loop-again Inv-loop μ-loop
 loop-again c = search needs
 
-slice-aggregate-text-3 : tie.Need-slice-aggregate-text-3 Inv-loop μ-loop
-slice-aggregate-text-3 c = search needs
+slice-aggregate-text-2 : tie.Need-slice-aggregate-text-2 Inv-loop μ-loop
+slice-aggregate-text-2 c = search needs
 
-text-requires-3 : tie.Need-text-requires-3 Inv-loop μ-loop
-text-requires-3 c κs = search needs
+text-requires-2 : tie.Need-text-requires-2 Inv-loop μ-loop
+text-requires-2 c κs = search needs
 
 returns : tie.Need-returns Inv-loop μ-loop
 returns c = search needs
@@ -92,12 +83,9 @@ show-record-spec =
     number-requires
     slice-aggregate-number-2
     number-requires-2
-    slice-aggregate-number-3
-    number-requires-3
+    show-limit-requires
     slice-aggregate-text
     text-requires
-    slice-aggregate-text-2
-    text-requires-2
     loop-holds
     mul-show-chunk
     element-copy-out-show-chunk
@@ -109,6 +97,6 @@ show-record-spec =
     add-i
     loop-less
     loop-again
-    slice-aggregate-text-3
-    text-requires-3
+    slice-aggregate-text-2
+    text-requires-2
     returns)
