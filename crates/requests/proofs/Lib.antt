@@ -14,3 +14,5 @@ pub mod Windows
 pub mod Feeds
 pub mod Pieces
 pub mod Ready
+pub mod Digits
+pub mod Counted

@@ -171,6 +171,12 @@ rest-ends running lent n m text rest f r =
     rw (run-on lent n m [] rest text (unfold frontOf in refl), settled-unfinished lent (frontOf rest) n m rest text r)
 rest-ends stopped lent n m text rest f r = rw (fed-stopped lent n m [] text rest)
 
+-- the machine, fed the bytes that were taken, stands where the windows have come
+pub gone-fed : (lent : List ℕ) (pieces : List Piece) →
+    let g = goneOn lent (begun lent) pieces in fed lent (start lent) (g .taken) ≡ machineAt (g .stage) (g .number) (g .memory) [] (g .text)
+unfolding Stands fed
+gone-fed lent pieces = stands-on lent (begun lent) pieces (refl, (refl, refl)) .0
+
 pub any-pieces : AnyPieces
 unfolding AnyPieces Stands fed
 any-pieces lent pieces rest r =

@@ -12,3 +12,4 @@ pub mod Inner
 pub mod Window
 pub mod Feed
 pub mod Pieces
+pub mod Digits

@@ -1,0 +1,14 @@
+-- `relay::begin` meets its contract. Assumes nothing.
+use borrow.Author.Needs.{needs}
+use Rattle.requests.specs.Feed.{startState}
+use Rattle.relay.proofs.begin.Statement.{statement}
+use Rattle.relay.proofs.begin.Tie as tie
+
+start-requires : tie.Need-start-requires
+start-requires c κs = search needs
+
+returns : tie.Need-returns
+returns c = cc
+
+pub begin-spec : {M : Type 1} → statement M
+begin-spec = tie.close (tie.spec start-requires returns)

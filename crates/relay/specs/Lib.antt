@@ -1,0 +1,4 @@
+pub mod Passage
+pub mod Event
+pub mod View
+pub mod Passing
