@@ -142,7 +142,7 @@ module _ (r : Relay) (lent input output : List ℕ) where
 
       go : (read written : List ℕ) (b : Bool) → ltb n (r .to - r .from) ≡ b →
           let r' = cond b (relayAt (r .state) (r .start) (r .filled) (r .from + n) (r .to) (r .«is_ended») Write)
-              (relayAt (r .state) (r .start) (r .filled) (r .to) (r .to) (r .«is_ended») (cond (r .«is_ended») Done Feed)) in
+          (relayAt (r .state) (r .start) (r .filled) (r .to) (r .to) (r .«is_ended») (cond (r .«is_ended») Done Feed)) in
           passageOf read (written ++ take n text) r' lent input output ≡ afterTook (passageOf read written r lent input output) n
       go read written true t =
           let few : n < r .to - r .from = ltb-true n (r .to - r .from) t in
@@ -240,11 +240,10 @@ module _ (r : Relay) (input output : List ℕ) (f : Fits r (length input) (lengt
   pub read-ended-goes : r .next ≡ Read → {output' : List ℕ} {w : ℕ} →
       Put output 0 (finalText (leb endRoom (length output) && soundOf (r .state .arena)) (stageSaid (r .state .stage)) (r .state .number) (r .state .arena) (part input (r .start) (r .filled - r .start))) output' w →
       w ≤ length output' → length output' ≡ length output → Goes r (relayAt (r .state) (r .start) (r .filled) 0 w true Write) input output output' ends
-  read-ended-goes h {output'} {w} put fits same =
-      (
-        record { starts = f .starts; filled = f .filled; begins = omega arith; ends = fits; room = λ e. absurd (not-read e (inr (inl refl))) },
-        λ lent. read-ended r lent input output h put fits same,
-      )
+  read-ended-goes h {output'} {w} put fits same = (
+    record { starts = f .starts; filled = f .filled; begins = omega arith; ends = fits; room = λ e. absurd (not-read e (inr (inl refl))) },
+    λ lent. read-ended r lent input output h put fits same,
+  )
 
   pub write-failed-goes : r .next ≡ Write → Goes r (asking r WriteFailed) input output output writeFails
   write-failed-goes h = (fits-asking WriteFailed (λ e. not-read e (inr (inr (inr (inr refl))))), λ lent. write-failed r lent input output h)
@@ -319,33 +318,31 @@ module _ (r : Relay) (lent input output : List ℕ) {lent' output' : List ℕ} {
 
   pub lines-come : 0 < did .written → FedGoes r lent input output lent' input output' (relayAt (did .state) (r .start + did .taken) (r .filled) 0 (did .written) (r .«is_ended») Write)
   unfolding text window step
-  lines-come some =
-      (
-        record {
-          starts = omega (arith, fits .starts, inside .0, size);
-          filled = fits .filled;
-          begins = omega arith;
-          ends = inside .1;
-          room = λ e. absurd (not-read e (inr (inl refl)));
-        },
-        fed-shows r lent input output came fits (inside .1) same input h (r .start + did .taken) (r .filled) (did .written) Write used refl
-            (asks-write (length input) (did .taken) _ text (omega (arith, text-size, some))),
-      )
+  lines-come some = (
+    record {
+      starts = omega (arith, fits .starts, inside .0, size);
+      filled = fits .filled;
+      begins = omega arith;
+      ends = inside .1;
+      room = λ e. absurd (not-read e (inr (inl refl)));
+    },
+    fed-shows r lent input output came fits (inside .1) same input h (r .start + did .taken) (r .filled) (did .written) Write used refl
+        (asks-write (length input) (did .taken) _ text (omega (arith, text-size, some))),
+  )
 
   pub more-to-feed : did .written ≤ 0 → 0 < did .taken → FedGoes r lent input output lent' input output' (relayAt (did .state) (r .start + did .taken) (r .filled) 0 0 (r .«is_ended») Feed)
   unfolding text window step
-  more-to-feed none some =
-      (
-        record {
-          starts = omega (arith, fits .starts, inside .0, size);
-          filled = fits .filled;
-          begins = omega arith;
-          ends = omega arith;
-          room = λ e. absurd (not-read e (inl refl));
-        },
-        fed-shows r lent input output came fits (inside .1) same input h (r .start + did .taken) (r .filled) 0 Feed used (omega (arith, none))
-            (asks-feed (length input) (did .taken) _ text (omega (arith, text-size, none)) some),
-      )
+  more-to-feed none some = (
+    record {
+      starts = omega (arith, fits .starts, inside .0, size);
+      filled = fits .filled;
+      begins = omega arith;
+      ends = omega arith;
+      room = λ e. absurd (not-read e (inl refl));
+    },
+    fed-shows r lent input output came fits (inside .1) same input h (r .start + did .taken) (r .filled) 0 Feed used (omega (arith, none))
+        (asks-feed (length input) (did .taken) _ text (omega (arith, text-size, none)) some),
+  )
 
   -- the bytes in hand are carried to the front
   module _ {input' : List ℕ} (carries : input' ≡ carried input (r .start) 0 (r .filled - r .start)) (no-line : did .written ≤ 0) (no-byte : did .taken ≤ 0) where
@@ -366,24 +363,22 @@ module _ (r : Relay) (lent input output : List ℕ) {lent' output' : List ℕ} {
 
     pub more-to-read : r .filled - r .start < length input' → FedGoes r lent input output lent' input' output' (relayAt (did .state) 0 (r .filled - r .start) 0 0 (r .«is_ended») Read)
     unfolding text window step
-    more-to-read room =
-        (
-          record { starts = omega arith; filled = omega (arith, room); begins = omega arith; ends = omega arith; room = λ e. room },
-          fed-shows r lent input output came fits (inside .1) same input' h 0 (r .filled - r .start) 0 Read front (omega (arith, no-line))
-              (asks-read (length input) (did .taken) _ text (omega (arith, text-size, no-line)) none-taken (omega (arith, size, room, input-size))),
-        )
+    more-to-read room = (
+      record { starts = omega arith; filled = omega (arith, room); begins = omega arith; ends = omega arith; room = λ e. room },
+      fed-shows r lent input output came fits (inside .1) same input' h 0 (r .filled - r .start) 0 Read front (omega (arith, no-line))
+          (asks-read (length input) (did .taken) _ text (omega (arith, text-size, no-line)) none-taken (omega (arith, size, room, input-size))),
+    )
 
     pub too-much : length input' ≤ r .filled - r .start → FedGoes r lent input output lent' input' output' (relayAt (did .state) 0 (r .filled - r .start) 0 0 (r .«is_ended») TooLong)
     unfolding text window step
-    too-much full =
-        (
-          record {
-            starts = omega arith;
-            filled = omega (arith, fits .starts, fits .filled, input-size);
-            begins = omega arith;
-            ends = omega arith;
-            room = λ e. let y : _≡_ {A = ℕ} 0 1 = cc in absurd (omega arith);
-          },
-          fed-shows r lent input output came fits (inside .1) same input' h 0 (r .filled - r .start) 0 TooLong front (omega (arith, no-line))
-              (asks-nothing (length input) (did .taken) _ text (omega (arith, text-size, no-line)) none-taken (omega (arith, size, full, input-size))),
-        )
+    too-much full = (
+      record {
+        starts = omega arith;
+        filled = omega (arith, fits .starts, fits .filled, input-size);
+        begins = omega arith;
+        ends = omega arith;
+        room = λ e. let y : _≡_ {A = ℕ} 0 1 = cc in absurd (omega arith);
+      },
+      fed-shows r lent input output came fits (inside .1) same input' h 0 (r .filled - r .start) 0 TooLong front (omega (arith, no-line))
+          (asks-nothing (length input) (did .taken) _ text (omega (arith, text-size, no-line)) none-taken (omega (arith, size, full, input-size))),
+    )

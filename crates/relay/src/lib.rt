@@ -1,6 +1,7 @@
 // What the replay program does between two calls of the system: each step takes what a call answered, and says which call is asked for next.
 ghost use mathlib.Core.Path.{_≡_};
 ghost use Rattle.relay.specs.View.{begunRelay};
+
 pub mod feeding;
 pub mod reading;
 pub mod said;

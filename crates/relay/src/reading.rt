@@ -71,7 +71,13 @@ fn end(relay: Relay, input: &[u8], output: &mut [u8]) -> Relay
 }
 
 // The input is as the read left it, with what it gave after the bytes in hand.
-pub fn after_read(relay: Relay, got: isize, is_interrupted: bool, input: &[u8], output: &mut [u8]) -> Relay
+pub fn after_read(
+    relay: Relay,
+    got: isize,
+    is_interrupted: bool,
+    input: &[u8],
+    output: &mut [u8],
+) -> Relay
     requires { ⌜ Fits relay (length (now input)) (length (now output)) × (relay .next ≡ Read) ⌝ }
     ensures { λ r. ⌜ Fits r (length (now (input .entry))) (length (now (output .exit))) × ((lent : List ℕ) (p : Passage) → Shows relay lent (now (input .entry)) (now (output .entry)) p → Shows r lent (now (input .entry)) (now (output .exit)) (afterEvent (sizes (length lent) (length (now (input .entry))) (length (now (output .entry)))) p (readAnswer (saidOf got «is_interrupted») (drop (relay .filled) (now (input .entry)))))) ⌝ }
 {

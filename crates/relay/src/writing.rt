@@ -54,7 +54,13 @@ fn give_out(relay: Relay, moved: usize) -> Relay
 }
 
 // A write that takes nothing has failed.
-pub fn after_write(relay: Relay, took: isize, is_interrupted: bool, input: &[u8], output: &[u8]) -> Relay
+pub fn after_write(
+    relay: Relay,
+    took: isize,
+    is_interrupted: bool,
+    input: &[u8],
+    output: &[u8],
+) -> Relay
     requires { ⌜ Fits relay (length (now input)) (length (now output)) × (relay .next ≡ Write) ⌝ }
     ensures { λ r. ⌜ Fits r (length (now (input .entry))) (length (now (output .entry))) × ((lent : List ℕ) (p : Passage) → Shows relay lent (now (input .entry)) (now (output .entry)) p → Shows r lent (now (input .entry)) (now (output .entry)) (afterEvent (sizes (length lent) (length (now (input .entry))) (length (now (output .entry)))) p (writeAnswer (saidOf took «is_interrupted»)))) ⌝ }
 {

@@ -1,58 +1,48 @@
 // Document 01's replay program: the request file on standard input, its lines on standard output. What goes wrong with either is told on standard
 // error, and then there is no `held` line, since a file that was not read to its end has none.
 ghost use Prim.Native.Nat.{_≤_};
+ghost use Rattle.relay.specs.View.{Fits};
 ghost use lib.ListN.{length};
-use calls::bytes::carry;
-use requests::machine::State;
-use requests::machine::feed;
-use requests::machine::finish;
-use requests::machine::start;
+use relay::Next;
+use relay::Relay;
+use relay::begin;
+use relay::feeding::feed_on;
+use relay::reading::after_read;
+use relay::writing::after_write;
 
-mod input;
-mod output;
-
-use crate::input::read_after;
-use crate::output::write_whole;
-
-// The state after the window's bytes that were taken, and whether their lines could be written.
-struct Drained {
-    state: State,
-    taken: usize,
-    is_written: bool,
+fn is_interrupted() -> bool {
+    os::errno() == libc::EINTR
 }
 
-// Runs what can be run of the window, and writes its lines.
-fn drain(before: State, lent: &mut [u8], window: &[u8], output: &mut [u8]) -> Drained
-    ensures { λ r. ⌜ r .taken ≤ length (now (window .entry)) ⌝ }
+// Reads into the input past the bytes in hand.
+fn read_past(input: &mut [u8], filled: usize) -> isize
+    requires { ⌜ filled ≤ length (now input) ⌝ }
 {
-    let mut state = before;
-    let mut taken: usize = 0;
-    let mut is_written = true;
-    while taken < window.len() {
-        let did = feed(state, lent, &window[taken..], output);
-        let n = did.written;
-        is_written = write_whole(&output[..n]);
-        state = did.state;
-        if !is_written {
-            break;
-        }
-        if did.taken == 0 {
-            break;
-        }
-        taken += did.taken;
-    }
-    Drained {
-        state,
-        taken,
-        is_written,
-    }
+    libc::read(libc::STDIN_FILENO, &mut input[filled..])
 }
 
-// The end of the input, with these bytes never taken.
-fn end(state: State, rest: &[u8], output: &mut [u8]) {
-    let n = finish(state, rest, output);
-    if !write_whole(&output[..n]) {
-        os::fail(b"replay: writing standard output");
+// Makes the call that is asked for, and hands its answer on. Between two calls the library decides, and is proved.
+fn turn(relay: Relay, lent: &mut [u8], input: &mut [u8], output: &mut [u8]) -> Relay
+    requires { ⌜ Fits relay (length (now input)) (length (now output)) ⌝ }
+    ensures { λ r. ⌜ Fits r (length (now (input .exit))) (length (now (output .exit))) ⌝ }
+{
+    let next = relay.next;
+    match next {
+        Next::Feed => feed_on(relay, lent, input, output),
+        Next::Read => {
+            let got = read_past(input, relay.filled);
+            after_read(relay, got, is_interrupted(), input, output)
+        }
+        Next::Write => {
+            let from = relay.from;
+            let to = relay.to;
+            let took = libc::write(libc::STDOUT_FILENO, &output[from..to]);
+            after_write(relay, took, is_interrupted(), input, output)
+        }
+        Next::Done => relay,
+        Next::ReadFailed => relay,
+        Next::WriteFailed => relay,
+        Next::TooLong => relay,
     }
 }
 
@@ -60,65 +50,38 @@ fn tell_too_long() {
     io::write_all(libc::STDERR_FILENO, b"replay: standard input is too long\n");
 }
 
-// The state, how many bytes are kept at the front of the input, and whether there may be more to read.
-struct Kept {
-    state: State,
-    bytes: usize,
-    is_open: bool,
-}
-
-// Reads once, after the bytes that are kept, and runs what can be run.
-fn turn(state: State, kept: usize, lent: &mut [u8], input: &mut [u8], output: &mut [u8]) -> Kept
-    requires { ⌜ kept ≤ length (now input) ⌝ }
-    ensures { λ r. ⌜ r .bytes ≤ length (now (input .exit)) ⌝ }
-{
-    let stop = Kept {
-        state,
-        bytes: 0,
-        is_open: false,
-    };
-    // The bytes kept are fewer than the longest record has. Were the input full, a read would seem to be at the end.
-    if kept == input.len() {
-        tell_too_long();
-        return stop;
-    }
-    let read = read_after(input, kept);
-    if read.is_failed {
-        os::fail(b"replay: reading standard input");
-        return stop;
-    }
-    let filled = kept + read.got;
-    if filled == kept {
-        end(state, &input[..kept], output);
-        return stop;
-    }
-    let did = drain(state, lent, &input[..filled], output);
-    if !did.is_written {
-        os::fail(b"replay: writing standard output");
-        return stop;
-    }
-    let left = filled - did.taken;
-    carry(input, did.taken, 0, left);
-    let after = did.state;
-    Kept {
-        state: after,
-        bytes: left,
-        is_open: true,
+// Whether it is over; what went wrong is told.
+fn is_over(next: Next) -> bool {
+    match next {
+        Next::Feed => false,
+        Next::Read => false,
+        Next::Write => false,
+        Next::Done => true,
+        Next::ReadFailed => {
+            os::fail(b"replay: reading standard input");
+            true
+        }
+        Next::WriteFailed => {
+            os::fail(b"replay: writing standard output");
+            true
+        }
+        Next::TooLong => {
+            tell_too_long();
+            true
+        }
     }
 }
 
 // A proved loop has to end, and nothing says that the input does, so that the turns are counted down from a number that no run uses up.
 fn replay(lent: &mut [u8], input: &mut [u8], output: &mut [u8]) {
-    let mut state = start();
-    let mut kept: usize = 0;
+    let mut relay = begin();
     let mut turns = u64::MAX;
     while 0 < turns {
-        let did = turn(state, kept, lent, input, output);
-        if !did.is_open {
+        relay = turn(relay, lent, input, output);
+        let next = relay.next;
+        if is_over(next) {
             return;
         }
-        state = did.state;
-        kept = did.bytes;
         turns -= 1;
     }
     tell_too_long();

@@ -1,25 +1,38 @@
--- `replay::replay` is safe and ends: the turns are counted down. Assumes nothing.
-use mathlib.Core.Path.{_≡_}
-use Prim.Native.Nat.{_≤_}
+-- `replay::replay` is safe and ends: the turns are counted down, and the relay fits its buffers after each. Assumes nothing.
+use Prim.Native.Nat.{ℕ}
+use native.Mathlib.Omega.{arith}
+use mathlib.Core.Path.{_≡_, refl, sym, subst}
 use lib.ListN.{length}
 use borrow.Author.Needs.{needs}
+use denote.Ref.{now}
+use Rattle.relay.specs.declared.Relay.{Relay}
+use Rattle.relay.specs.View.{Fits, begunRelay}
 use Rattle.replay.proofs.replay.Statement.{statement}
 use Rattle.replay.proofs.replay.Tie as tie
 
+fits-begun : (input output : ℕ) → Fits begunRelay input output
+fits-begun input output =
+    record { starts = omega arith; filled = omega arith; begins = omega arith; ends = omega arith; room = λ e. let y : _≡_ {A = ℕ} 0 1 = cc in absurd (omega arith) }
+
 abbrev Inv-loop : tie.InvT-loop
-Inv-loop lent₀ input₀ output₀ state₀ kept₀ turns₀ lent input output state kept turns = (kept ≤ length input) × (length lent ≡ length lent₀) × (length input ≡ length input₀) × (length output ≡ length output₀)
+Inv-loop lent₀ input₀ output₀ relay₀ turns₀ lent input output relay turns = Fits relay (length input) (length output) × (length lent ≡ length lent₀) × (length input ≡ length input₀) × (length output ≡ length output₀)
 
 abbrev μ-loop : tie.MeasureT-loop
-μ-loop lent₀ input₀ output₀ state₀ kept₀ turns₀ lent input output state kept turns = turns
+μ-loop lent₀ input₀ output₀ relay₀ turns₀ lent input output relay turns = turns
 
-start-requires : tie.Need-start-requires Inv-loop μ-loop
-start-requires c κs = search needs
+begin-requires : tie.Need-begin-requires Inv-loop μ-loop
+begin-requires c κs = search needs
 
 loop-holds : tie.Need-loop-holds Inv-loop μ-loop
-loop-holds c = search needs
+loop-holds c =
+    let a = c .before .before .before .before .args in
+    (subst (λ (r : Relay). Fits r (length (now (a .input))) (length (now (a .output)))) (sym (c .begin .ensures)) (fits-begun (length (now (a .input))) (length (now (a .output)))), refl, refl, refl)
 
 turn-requires : tie.Need-turn-requires Inv-loop μ-loop
 turn-requires c κs = search needs
+
+is-over-requires : tie.Need-is-over-requires Inv-loop μ-loop
+is-over-requires c κs = search needs
 
 same-length : tie.Need-same-length Inv-loop μ-loop
 same-length c = search needs
@@ -63,9 +76,10 @@ replay-spec =
     (tie.spec
     Inv-loop
     μ-loop
-    start-requires
+    begin-requires
     loop-holds
     turn-requires
+    is-over-requires
     same-length
     same-length-2
     same-length-3
