@@ -1,6 +1,7 @@
-pub mod Signs
-pub mod Parts
-pub mod Steps
 pub mod Growing
-pub mod Passages
 pub mod Over
+pub mod Parts
+pub mod Passages
+pub mod Reached
+pub mod Signs
+pub mod Steps

@@ -3,7 +3,7 @@ use Prim.Native.Nat.{ℕ, _+_, _-_, _≤_, _<_}
 use mathlib.Core.Bool.{Bool, true, false, cond}
 use mathlib.Core.List.{List}
 use mathlib.Core.Path.{_≡_}
-use lib.ListN.{drop}
+use lib.ListN.{length, drop}
 use lib.Dec.{ltb}
 use Rattle.calls.specs.Bytes.{part}
 use Rattle.requests.specs.declared.machine.State.{State}
@@ -12,6 +12,7 @@ use Rattle.relay.specs.declared.Next.{Next}
 use Rattle.relay.specs.declared.Next.the-variants.{Feed, Read, Write, Done}
 use Rattle.relay.specs.declared.Relay.{Relay}
 use Rattle.relay.specs.Passage.{Passage, passageAt}
+use Rattle.relay.specs.Event.{Event, sizes, afterEvent, passed}
 
 abbrev pub relayAt : State → ℕ → ℕ → ℕ → ℕ → Bool → Next → Relay
 relayAt state start filled from to ended next =
@@ -51,3 +52,13 @@ unfoldable pub writtenBy : Relay → ℕ → Relay
 writtenBy r moved =
     cond (ltb moved (r .to - r .from)) (relayAt (r .state) (r .start) (r .filled) (r .from + moved) (r .to) (r .«is_ended») Write)
     (relayAt (r .state) (r .start) (r .filled) (r .to) (r .to) (r .«is_ended») (cond (r .«is_ended») Done Feed))
+
+-- by some event the code has gone on from a relay and its buffers to others
+unfoldable pub GoesOn : Relay → List ℕ → List ℕ → List ℕ → Relay → List ℕ → List ℕ → List ℕ → Type 0
+GoesOn r lent input output r' lent' input' output' =
+    (p : Passage) → Shows r lent input output p →
+    (e : Event) × Shows r' lent' input' output' (afterEvent (sizes (length lent) (length input) (length output)) p e)
+
+-- by some row of events it has come here, from the start with these bytes lent
+unfoldable pub Reached : List ℕ → Relay → List ℕ → List ℕ → List ℕ → Type 0
+Reached lent₀ r lent input output = (events : List Event) × Shows r lent input output (passed (length input) (length output) lent₀ events)

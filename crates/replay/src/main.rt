@@ -1,8 +1,9 @@
 // Document 01's replay program: the request file on standard input, its lines on standard output. What goes wrong with either is told on standard
 // error, and then there is no `held` line, since a file that was not read to its end has none.
+ghost use mathlib.Core.Path.{_≡_};
 ghost use Prim.Native.Nat.{_≤_};
-ghost use Rattle.relay.specs.View.{Fits};
-ghost use lib.ListN.{length};
+ghost use lib.ListN.{length, take};
+ghost use Rattle.relay.specs.View.{Fits, GoesOn, Reached};
 use relay::Next;
 use relay::Relay;
 use relay::begin;
@@ -17,6 +18,7 @@ fn is_interrupted() -> bool {
 // Reads into the input past the bytes in hand.
 fn read_past(input: &mut [u8], filled: usize) -> isize
     requires { ⌜ filled ≤ length (now input) ⌝ }
+    ensures { λ _. ⌜ take filled (now (input .exit)) ≡ take filled (now (input .entry)) ⌝ }
 {
     libc::read(libc::STDIN_FILENO, &mut input[filled..])
 }
@@ -24,7 +26,7 @@ fn read_past(input: &mut [u8], filled: usize) -> isize
 // Makes the call that is asked for, and hands its answer on. Between two calls the library decides, and is proved.
 fn turn(relay: Relay, lent: &mut [u8], input: &mut [u8], output: &mut [u8]) -> Relay
     requires { ⌜ Fits relay (length (now input)) (length (now output)) ⌝ }
-    ensures { λ r. ⌜ Fits r (length (now (input .exit))) (length (now (output .exit))) ⌝ }
+    ensures { λ r. ⌜ Fits r (length (now (input .exit))) (length (now (output .exit))) × GoesOn relay (now (lent .entry)) (now (input .entry)) (now (output .entry)) r (now (lent .exit)) (now (input .exit)) (now (output .exit)) ⌝ }
 {
     let next = relay.next;
     match next {
@@ -72,19 +74,24 @@ fn is_over(next: Next) -> bool {
     }
 }
 
-// A proved loop has to end, and nothing says that the input does, so that the turns are counted down from a number that no run uses up.
-fn replay(lent: &mut [u8], input: &mut [u8], output: &mut [u8]) {
+// Where it stopped; the theorem over every passage asks for these lengths. A proved loop has to end, and nothing says that the input does, so that the turns are
+// counted down from a number that no run uses up.
+fn replay(lent: &mut [u8], input: &mut [u8], output: &mut [u8]) -> Relay
+    requires { ⌜ (65536 ≤ length (now lent)) × (128 ≤ length (now output)) ⌝ }
+    ensures { λ r. ⌜ Reached (now (lent .entry)) r (now (lent .exit)) (now (input .exit)) (now (output .exit)) ⌝ }
+{
     let mut relay = begin();
     let mut turns = u64::MAX;
     while 0 < turns {
         relay = turn(relay, lent, input, output);
         let next = relay.next;
         if is_over(next) {
-            return;
+            return relay;
         }
         turns -= 1;
     }
     tell_too_long();
+    relay
 }
 
 // Room for three of the longest records, which have 65,537 bytes, so that there is always much to read into.

@@ -1,4 +1,5 @@
--- `replay::replay` is safe and ends: the turns are counted down, and the relay fits its buffers after each. Assumes nothing.
+-- `replay::replay` comes by some row of events to where it stops, and ends: the turns are counted down, and the relay fits its buffers after each.
+-- Assumes nothing.
 use Prim.Native.Nat.{ℕ}
 use native.Mathlib.Omega.{arith}
 use mathlib.Core.Path.{_≡_, refl, sym, subst}
@@ -6,7 +7,8 @@ use lib.ListN.{length}
 use borrow.Author.Needs.{needs}
 use denote.Ref.{now}
 use Rattle.relay.specs.declared.Relay.{Relay}
-use Rattle.relay.specs.View.{Fits, begunRelay}
+use Rattle.relay.specs.View.{Fits, begunRelay, Reached}
+use Rattle.relay.proofs.Reached.{begun-reached, goes-reached}
 use Rattle.replay.proofs.replay.Statement.{statement}
 use Rattle.replay.proofs.replay.Tie as tie
 
@@ -15,7 +17,7 @@ fits-begun input output =
     record { starts = omega arith; filled = omega arith; begins = omega arith; ends = omega arith; room = λ e. let y : _≡_ {A = ℕ} 0 1 = cc in absurd (omega arith) }
 
 abbrev Inv-loop : tie.InvT-loop
-Inv-loop lent₀ input₀ output₀ relay₀ turns₀ lent input output relay turns = Fits relay (length input) (length output) × (length lent ≡ length lent₀) × (length input ≡ length input₀) × (length output ≡ length output₀)
+Inv-loop lent₀ input₀ output₀ relay₀ turns₀ lent input output relay turns = Fits relay (length input) (length output) × (length lent ≡ length lent₀) × (length input ≡ length input₀) × (length output ≡ length output₀) × Reached lent₀ relay lent input output
 
 abbrev μ-loop : tie.MeasureT-loop
 μ-loop lent₀ input₀ output₀ relay₀ turns₀ lent input output relay turns = turns
@@ -26,13 +28,22 @@ begin-requires c κs = search needs
 loop-holds : tie.Need-loop-holds Inv-loop μ-loop
 loop-holds c =
     let a = c .before .before .before .before .args in
-    (subst (λ (r : Relay). Fits r (length (now (a .input))) (length (now (a .output)))) (sym (c .begin .ensures)) (fits-begun (length (now (a .input))) (length (now (a .output)))), refl, refl, refl)
+    (subst (λ (r : Relay). Fits r (length (now (a .input))) (length (now (a .output)))) (sym (c .begin .ensures)) (fits-begun (length (now (a .input))) (length (now (a .output)))), refl, refl, refl, subst (λ (r : Relay). Reached (now (a .lent)) r (now (a .lent)) (now (a .input)) (now (a .output))) (sym (c .begin .ensures)) (begun-reached (now (a .lent)) (now (a .input)) (now (a .output))))
 
 turn-requires : tie.Need-turn-requires Inv-loop μ-loop
 turn-requires c κs = search needs
 
 is-over-requires : tie.Need-is-over-requires Inv-loop μ-loop
 is-over-requires c κs = search needs
+
+-- each turn goes on by some event
+went : (t : tie.After-turn Inv-loop μ-loop) →
+    Reached (now (t .before .before .before .before .before .before .before .before .before .before .args .lent)) (t .turn .result) (t .turn .last .1 .0) (t .turn .last .1 .1 .0) (t .turn .last .1 .1 .1 .0)
+went t =
+    let l = t .before .before .before .before .before .loop in
+    goes-reached (now (t .before .before .before .before .before .before .before .before .before .before .args .lent)) (l .relay) (t .turn .result) (l .lent) (l .input) (l .output) (t .turn .last .1 .0)
+    (t .turn .last .1 .1 .0) (t .turn .last .1 .1 .1 .0) (l .inv .1) (t .turn .kept .1 .1 .0) (t .turn .kept .1 .1 .1 .0) (l .inv .4)
+    (t .turn .ensures .1)
 
 same-length : tie.Need-same-length Inv-loop μ-loop
 same-length c = search needs
@@ -44,7 +55,7 @@ same-length-3 : tie.Need-same-length-3 Inv-loop μ-loop
 same-length-3 c = search needs
 
 returns : tie.Need-returns Inv-loop μ-loop
-returns c = search needs
+returns c = went (c .before .before .before .before .before .before .before .before)
 
 sub-turns : tie.Need-sub-turns Inv-loop μ-loop
 sub-turns c = search needs
@@ -53,7 +64,7 @@ loop-less : tie.Need-loop-less Inv-loop μ-loop
 loop-less c = search needs
 
 loop-again : tie.Need-loop-again Inv-loop μ-loop
-loop-again c = search needs
+loop-again c = (search needs, search needs, search needs, search needs, went (c .before .before .before .before .before .before .before .before))
 
 tell-too-long-requires : tie.Need-tell-too-long-requires Inv-loop μ-loop
 tell-too-long-requires c κs = search needs
@@ -68,7 +79,7 @@ same-length-6 : tie.Need-same-length-6 Inv-loop μ-loop
 same-length-6 c = search needs
 
 returns-2 : tie.Need-returns-2 Inv-loop μ-loop
-returns-2 c = search needs
+returns-2 c = c .before .before .loop .inv .4
 
 pub replay-spec : {M : Type 1} → statement M
 replay-spec =
