@@ -1,13 +1,13 @@
--- Once it is over nothing changes, and only a read that found the end is taken for it. Assumes nothing.
+-- Once it is over nothing changes, a failure is the end of it, and only a read that found the end is taken for that. Assumes nothing.
 use Prim.Native.Nat.{ℕ}
 use native.Mathlib.Omega.{arith}
 use mathlib.Core.Bool.{true, false}
-use mathlib.Core.Path.{_≡_, refl}
+use mathlib.Core.Path.{_≡_, refl, ap}
 use Rattle.relay.specs.declared.Next.{Next}
 use Rattle.relay.specs.declared.Next.the-variants.{Feed, Read, Write, Done, ReadFailed, WriteFailed, TooLong}
 use Rattle.relay.specs.Passage.{Passage}
 use Rattle.relay.specs.Event.{Event, feeds, gives, ends, readFails, takes, writeFails, interrupts, Sizes, afterFed, fedOn, readOn, writtenOn, goesOn, afterEvent}
-use Rattle.relay.specs.Passing.{EndSeen, isOver, OverStays}
+use Rattle.relay.specs.Passing.{EndSeen, FailureStops, isOver, OverStays}
 
 clash : {A : Type 0} → _≡_ {A = ℕ} 0 1 → A
 clash e = absurd (omega (arith, e))
@@ -24,6 +24,10 @@ over-stays z p e over = go (p .asks) over
     go ReadFailed o = refl
     go WriteFailed o = refl
     go TooLong o = refl
+
+pub failure-stops : FailureStops
+unfolding FailureStops afterEvent goesOn readOn writtenOn
+failure-stops z p = (λ e. ap (λ (next : Next). goesOn next z p readFails) e, λ e. ap (λ (next : Next). goesOn next z p writeFails) e)
 
 differs : (z : Sizes) (p : Passage) → p .ended ≡ false → p .ended ≡ true → ⊥
 differs z p e f = let y : _≡_ {A = ℕ} 0 1 = cc in omega (arith, y)

@@ -4,7 +4,7 @@ use Prim.Native.Nat.{ℕ, _+_, _-_, _≤_}
 use native.Mathlib.Omega.{arith}
 use mathlib.Core.List.{List, [], _∷_, _++_}
 use mathlib.Core.Path.{_≡_, refl, sym, ap, subst, _∙_}
-use lib.ListN.{length, take, drop}
+use lib.ListN.{length, take, drop, length-append}
 use lib.Seq.{take-add, drop-at, length-take-le}
 use Rattle.arena.specs.Record.{holding}
 use Rattle.calls.specs.Bytes.{part}
@@ -71,20 +71,21 @@ read-on r r' lent input other output output' e fits same kept step p shows = (
       (step p (shows-kept r lent input other output p fits same kept shows)),
 )
 
-pub begun-reached : (lent input output : List ℕ) → Reached lent begunRelay lent input output
+-- at first nothing has happened: the passage is the one before the first byte
+pub begun-reached : (lent input output : List ℕ) → Reached 0 lent begunRelay lent input output
 unfolding Reached Shows passedOn memoryFor stageSaid holding
-begun-reached lent input output = ([], refl)
+begun-reached lent input output = ([], refl, refl)
 
 passed-then : (z : Sizes) (p : Passage) (events : List Event) (e : Event) → passedOn z p (events ++ (e ∷ [])) ≡ afterEvent z (passedOn z p events) e
 unfolding passedOn
 passed-then z p [] e = refl
 passed-then z p (first ∷ events) e = passed-then z (afterEvent z p first) events e
 
-pub goes-reached : (lent₀ : List ℕ) (r r' : Relay) (lent input output lent' input' output' : List ℕ) → length lent ≡ length lent₀ →
+pub goes-reached : (n : ℕ) (lent₀ : List ℕ) (r r' : Relay) (lent input output lent' input' output' : List ℕ) → length lent ≡ length lent₀ →
     length input' ≡ length input → length output' ≡ length output →
-    Reached lent₀ r lent input output → GoesOn r lent input output r' lent' input' output' → Reached lent₀ r' lent' input' output'
+    Reached n lent₀ r lent input output → GoesOn r lent input output r' lent' input' output' → Reached (n + 1) lent₀ r' lent' input' output'
 unfolding Reached GoesOn
-goes-reached lent₀ r r' lent input output lent' input' output' l i o (events, shows) on =
+goes-reached n lent₀ r r' lent input output lent' input' output' l i o (events, many, shows) on =
     let (e, shown) = on (passed (length input) (length output) lent₀ events) shows in
     let longer : List Event = events ++ (e ∷ []) in
     let same =
@@ -92,4 +93,4 @@ goes-reached lent₀ r r' lent input output lent' input' output' l i o (events, 
     ∙ sym (passed-then (sizes (length lent₀) (length input) (length output)) (begunWith lent₀) events e)
     ∙ ap (λ (n : ℕ). passed n (length output) lent₀ longer) (sym i)
     ∙ ap (λ (n : ℕ). passed (length input') n lent₀ longer) (sym o) in
-    (longer, subst (Shows r' lent' input' output') same shown)
+    (longer, length-append events (e ∷ []) ∙ ap (λ (k : ℕ). k + 1) many, subst (Shows r' lent' input' output') same shown)

@@ -1,4 +1,4 @@
 pub mod Passage
 pub mod Event
-pub mod View
 pub mod Passing
+pub mod View

@@ -10,8 +10,8 @@ use Rattle.requests.specs.Replay.{replayOf}
 use Rattle.requests.specs.Pieces.{isRest}
 use Rattle.relay.specs.declared.Next.{Next}
 use Rattle.relay.specs.declared.Next.the-variants.{Feed, Read, Write, Done, ReadFailed, WriteFailed, TooLong}
-use Rattle.relay.specs.Passage.{Passage}
-use Rattle.relay.specs.Event.{Event, ends, Sizes, afterEvent, passed}
+use Rattle.relay.specs.Passage.{Passage, asked}
+use Rattle.relay.specs.Event.{Event, ends, readFails, writeFails, Sizes, afterEvent, passed}
 
 -- the first bytes of a text
 pub record Begins (front whole : List ℕ) : Type 0 where
@@ -45,6 +45,12 @@ EveryPassage =
 unfoldable pub EndSeen : Type 0
 EndSeen =
     (z : Sizes) (p : Passage) (e : Event) → p .ended ≡ false → afterEvent z p e .ended ≡ true → (p .asks ≡ Read) × (e ≡ ends)
+
+-- a call that failed is not made again: nothing but what is told comes after it
+unfoldable pub FailureStops : Type 0
+FailureStops =
+    (z : Sizes) (p : Passage) →
+    (p .asks ≡ Read → afterEvent z p readFails ≡ asked p ReadFailed) × (p .asks ≡ Write → afterEvent z p writeFails ≡ asked p WriteFailed)
 
 unfoldable pub isOver : Next → Bool
 isOver Feed = false

@@ -1,7 +1,8 @@
 -- What the code's relay and its buffers say of a passage.
-use Prim.Native.Nat.{ℕ, _+_, _-_, _≤_, _<_}
+use Prim.Native.Nat.{ℕ, _+_, _-_, _^_, _≤_, _<_}
 use mathlib.Core.Bool.{Bool, true, false, cond}
 use mathlib.Core.List.{List}
+use mathlib.Core.Logic.{_⊎_}
 use mathlib.Core.Path.{_≡_}
 use lib.ListN.{length, drop}
 use lib.Dec.{ltb}
@@ -13,6 +14,7 @@ use Rattle.relay.specs.declared.Next.the-variants.{Feed, Read, Write, Do
 use Rattle.relay.specs.declared.Relay.{Relay}
 use Rattle.relay.specs.Passage.{Passage, passageAt}
 use Rattle.relay.specs.Event.{Event, sizes, afterEvent, passed}
+use Rattle.relay.specs.Passing.{isOver}
 
 abbrev pub relayAt : State → ℕ → ℕ → ℕ → ℕ → Bool → Next → Relay
 relayAt state start filled from to ended next =
@@ -59,6 +61,12 @@ GoesOn r lent input output r' lent' input' output' =
     (p : Passage) → Shows r lent input output p →
     (e : Event) × Shows r' lent' input' output' (afterEvent (sizes (length lent) (length input) (length output)) p e)
 
--- by some row of events it has come here, from the start with these bytes lent
-unfoldable pub Reached : List ℕ → Relay → List ℕ → List ℕ → List ℕ → Type 0
-Reached lent₀ r lent input output = (events : List Event) × Shows r lent input output (passed (length input) (length output) lent₀ events)
+-- by a row of so many events it has come here, from the start with these bytes lent
+unfoldable pub Reached : ℕ → List ℕ → Relay → List ℕ → List ℕ → List ℕ → Type 0
+Reached n lent₀ r lent input output =
+    (events : List Event) × (length events ≡ n) × Shows r lent input output (passed (length input) (length output) lent₀ events)
+
+-- and goes on no more: it is over, or no more events can be counted
+unfoldable pub Stopped : List ℕ → Relay → List ℕ → List ℕ → List ℕ → Type 0
+Stopped lent₀ r lent input output =
+    (n : ℕ) × Reached n lent₀ r lent input output × ((isOver (r .next) ≡ true) ⊎ (n ≡ 2 ^ 64 - 1))

@@ -3,7 +3,8 @@
 ghost use mathlib.Core.Path.{_≡_};
 ghost use Prim.Native.Nat.{_≤_};
 ghost use lib.ListN.{length, take};
-ghost use Rattle.relay.specs.View.{Fits, GoesOn, Reached};
+ghost use Rattle.relay.specs.Passing.{isOver};
+ghost use Rattle.relay.specs.View.{Fits, GoesOn, Stopped};
 use relay::Next;
 use relay::Relay;
 use relay::begin;
@@ -52,25 +53,30 @@ fn tell_too_long() {
     io::write_all(libc::STDERR_FILENO, b"replay: standard input is too long\n");
 }
 
-// Whether it is over; what went wrong is told.
-fn is_over(next: Next) -> bool {
+// What went wrong is told.
+fn tell(next: Next) {
+    match next {
+        Next::Feed => {}
+        Next::Read => {}
+        Next::Write => {}
+        Next::Done => {}
+        Next::ReadFailed => os::fail(b"replay: reading standard input"),
+        Next::WriteFailed => os::fail(b"replay: writing standard output"),
+        Next::TooLong => tell_too_long(),
+    }
+}
+
+fn is_over(next: Next) -> bool
+    ensures { λ r. ⌜ r ≡ isOver next ⌝ }
+{
     match next {
         Next::Feed => false,
         Next::Read => false,
         Next::Write => false,
         Next::Done => true,
-        Next::ReadFailed => {
-            os::fail(b"replay: reading standard input");
-            true
-        }
-        Next::WriteFailed => {
-            os::fail(b"replay: writing standard output");
-            true
-        }
-        Next::TooLong => {
-            tell_too_long();
-            true
-        }
+        Next::ReadFailed => true,
+        Next::WriteFailed => true,
+        Next::TooLong => true,
     }
 }
 
@@ -78,7 +84,7 @@ fn is_over(next: Next) -> bool {
 // counted down from a number that no run uses up.
 fn replay(lent: &mut [u8], input: &mut [u8], output: &mut [u8]) -> Relay
     requires { ⌜ (65536 ≤ length (now lent)) × (128 ≤ length (now output)) ⌝ }
-    ensures { λ r. ⌜ Reached (now (lent .entry)) r (now (lent .exit)) (now (input .exit)) (now (output .exit)) ⌝ }
+    ensures { λ r. ⌜ Stopped (now (lent .entry)) r (now (lent .exit)) (now (input .exit)) (now (output .exit)) ⌝ }
 {
     let mut relay = begin();
     let mut turns = u64::MAX;
@@ -86,6 +92,7 @@ fn replay(lent: &mut [u8], input: &mut [u8], output: &mut [u8]) -> Relay
         relay = turn(relay, lent, input, output);
         let next = relay.next;
         if is_over(next) {
+            tell(next);
             return relay;
         }
         turns -= 1;

@@ -10,7 +10,7 @@ use lib.ListN.{getD}
 use borrow.Author.Tests.{le-leb, ltb-true, ltb-false}
 use Rattle.rounding.proofs.Tests.{and-both, and-left, and-right}
 use Rattle.requests.specs.Text.{digitsWithin, decimal}
-use Rattle.requests.specs.Digits.{valueFrom, isDigit, allDigits, ReadsBack}
+use Rattle.requests.specs.Digits.{valueFrom, isDigit, allDigits, ReadsBack, ZeroPrinted}
 
 value-last : (n : ℕ) (ds : List ℕ) (d : ℕ) → valueFrom n (ds ++ (d ∷ [])) ≡ valueFrom n ds * 10 + (d - 48)
 unfolding valueFrom
@@ -68,3 +68,7 @@ first-above (suc most) n some below = go (ltb n 10) refl (λ more. first-above m
 pub decimal-reads-back : ReadsBack
 unfolding ReadsBack decimal
 decimal-reads-back n below = (reads-back 20 n below, are-digits 20 n, λ some. first-above 20 n some below)
+
+pub zero-printed : ZeroPrinted
+unfolding ZeroPrinted decimal digitsWithin
+zero-printed = refl

@@ -27,6 +27,9 @@ unfoldable pub ReadsBack : Type 0
 ReadsBack =
     (n : ℕ) → n < 10 ^ 20 → (valueFrom 0 (decimal n) ≡ n) × (allDigits (decimal n) ≡ true) × (0 < n → leb 49 (getD (decimal n) 0 0) ≡ true)
 
+unfoldable pub ZeroPrinted : Type 0
+ZeroPrinted = decimal 0 ≡ 48 ∷ []
+
 -- the last number that is counted to, and the bytes of the output that a line and the last lines may take
 unfoldable pub Counted : Type 0
 Counted = (lastNumber ≡ 2 ^ 64 - 1) × (lineRoom ≡ 2 ^ 6) × (endRoom ≡ 2 ^ 7)
