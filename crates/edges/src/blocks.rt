@@ -82,6 +82,7 @@ fn with_31_chunks(new: Store) -> Store {
     Store {
         arena: a,
         lent: new.lent,
+        plant: new.plant,
         bytes: b,
     }
 }

@@ -1,11 +1,23 @@
 // Changes that are planted, to see that each is seen.
+use crate::steps::allocate;
+use crate::steps::allocate_with_token;
+use crate::steps::copy_in;
+use crate::steps::fill_in;
+use crate::steps::free;
+use crate::steps::grow;
+use crate::steps::grow_zeroed;
+use crate::steps::lend;
+use crate::steps::resize;
+use crate::steps::shrink;
+use crate::store::A_NUMBER;
+use crate::store::BEFORE_THE_WRITE;
 use crate::store::Store;
+use crate::store::plant;
 use crate::store::same_outside;
 use crate::store::same_store;
+use crate::store::with_next;
 use arena::Arena;
 use trial::row::NUMBERS;
-use trial::row::number_at;
-use trial::row::with_number;
 use trial::say::number;
 use trial::say::text;
 
@@ -14,13 +26,9 @@ fn with_record(s: Store, a: Arena) -> Store {
     Store {
         arena: a,
         lent: s.lent,
+        plant: s.plant,
         bytes: b,
     }
-}
-
-// One number more than it was.
-fn with_next(a: Arena, k: usize) -> Arena {
-    with_number(a, k, std::num::wrapping_add_usize(number_at(a, k), 1))
 }
 
 fn changed_numbers(s: Store) {
@@ -38,12 +46,11 @@ fn changed_numbers(s: Store) {
 fn with_byte(s: Store, at: usize) -> Store {
     let a = s.arena;
     let mut b = s.bytes;
-    if at < 16384 {
-        b[at] = b[at] ^ 1;
-    }
+    plant(&mut b, at);
     Store {
         arena: a,
         lent: s.lent,
+        plant: s.plant,
         bytes: b,
     }
 }
@@ -71,6 +78,60 @@ fn changed_outside(s: Store, at: usize, from: usize, to: usize) {
     show_same(same_outside(&before, &after, from, to));
 }
 
+fn with_plant(s: Store, plant: usize) -> Store {
+    let a = s.arena;
+    let b = s.bytes;
+    Store {
+        arena: a,
+        lent: s.lent,
+        plant: plant,
+        bytes: b,
+    }
+}
+
+fn byte(s: Store, at: usize) -> Store {
+    number(b"planted: byte ", at);
+    text(b" after ");
+    with_plant(s, at)
+}
+
+fn a_number(s: Store) -> Store {
+    text(b"planted: a number of the record after ");
+    with_plant(s, A_NUMBER)
+}
+
+fn before_the_write(s: Store) -> Store {
+    text(b"planted: the block's first byte before the write of ");
+    with_plant(s, BEFORE_THE_WRITE)
+}
+
+fn served(s: Store) {
+    allocate(byte(s, 0), 1, 1);
+    allocate_with_token(byte(s, 0), 1, 1);
+    copy_in(byte(s, 437), b"abcdefghij", 1);
+    copy_in(byte(s, 448), b"abcdefghij", 1);
+    fill_in(byte(s, 446), 1, 1, b'x');
+    fill_in(byte(s, 448), 1, 1, b'x');
+}
+
+fn served_on_a_block(ten: Store) {
+    grow(byte(ten, 433), 438, 10, 1, 14, 1);
+    grow_zeroed(byte(ten, 448), 438, 10, 1, 14, 1);
+    shrink(byte(ten, 442), 438, 10, 1, 5, 1);
+    resize(byte(ten, 448), 438, 10, 1, 5);
+    lend(byte(ten, 437), 438, 10, 1, b'x');
+    lend(byte(ten, 448), 438, 10, 1, b'x');
+    lend(before_the_write(ten), 438, 10, 1, b'x');
+}
+
+fn refused(s: Store) {
+    allocate(byte(s, 0), 1, 3);
+    allocate(a_number(s), 1, 3);
+    copy_in(byte(s, 16383), b"abcdefghij", 3);
+    free(a_number(s), 448, 1, 1);
+    lend(byte(s, 16383), 448, 1, 1, b'x');
+}
+
 pub fn run(s: Store) {
     changed_numbers(s);
     changed_byte(s, 0);
@@ -83,4 +144,7 @@ pub fn run(s: Store) {
     changed_outside(s, 448, 432, 448);
     changed_outside(s, 16383, 432, 448);
     changed_outside(s, 432, 432, 432);
+    served(s);
+    served_on_a_block(copy_in(s, b"abcdefghij", 1));
+    refused(s);
 }

@@ -4,7 +4,11 @@ use crate::say::show_given;
 use crate::say::show_record;
 use crate::say::was_done;
 use crate::say::was_given;
+use crate::store::BEFORE_THE_WRITE;
+use crate::store::NOTHING;
 use crate::store::Store;
+use crate::store::plant;
+use crate::store::planted_record;
 use crate::store::put_bytes;
 use crate::store::same_outside;
 use crate::store::show_after;
@@ -30,6 +34,7 @@ pub fn create(region: usize, minimum: usize, capacity: usize) -> Store {
     Store {
         arena: a,
         lent: region,
+        plant: NOTHING,
         bytes: [46; 16384],
     }
 }
@@ -44,10 +49,11 @@ fn show_written(answer: Given, before: [u8; 16384], after: [u8; 16384], size: us
 
 fn given(s: Store, got: Allocation, bytes: [u8; 16384], size: usize) -> Store {
     let answer = got.answer;
-    let a = got.arena;
+    let a = planted_record(s, got.arena);
     let after = Store {
         arena: a,
         lent: s.lent,
+        plant: s.plant,
         bytes: bytes,
     };
     show_given(answer);
@@ -59,11 +65,12 @@ fn given(s: Store, got: Allocation, bytes: [u8; 16384], size: usize) -> Store {
 
 fn done(s: Store, got: Outcome) -> Store {
     let answer = got.answer;
-    let a = got.arena;
+    let a = planted_record(s, got.arena);
     let b = s.bytes;
     let after = Store {
         arena: a,
         lent: s.lent,
+        plant: s.plant,
         bytes: b,
     };
     show_answer(answer);
@@ -78,6 +85,7 @@ pub fn allocate(s: Store, size: usize, align: usize) -> Store {
     let mut b = [46u8; 16384];
     let n = put_bytes(&mut b, &s.bytes, s.lent);
     let got = calls::allocate::allocate(a, &b[..n], size, align);
+    plant(&mut b, s.plant);
     given(s, got, b, 0)
 }
 
@@ -89,6 +97,7 @@ pub fn copy_in(s: Store, source: &[u8], align: usize) -> Store {
     let mut b = [46u8; 16384];
     let n = put_bytes(&mut b, &s.bytes, s.lent);
     let got = calls::write::copy_in(a, &mut b[..n], source, align);
+    plant(&mut b, s.plant);
     given(s, got, b, source.len())
 }
 
@@ -99,6 +108,7 @@ pub fn fill_in(s: Store, size: usize, align: usize, value: u8) -> Store {
     let mut b = [46u8; 16384];
     let n = put_bytes(&mut b, &s.bytes, s.lent);
     let got = calls::write::fill_in(a, &mut b[..n], size, align, value);
+    plant(&mut b, s.plant);
     given(s, got, b, size)
 }
 
@@ -124,6 +134,7 @@ pub fn grow(
     let mut b = [46u8; 16384];
     let n = put_bytes(&mut b, &s.bytes, s.lent);
     let got = reshape::grow::grow(a, &mut b[..n], offset, old, old_align, new, new_align);
+    plant(&mut b, s.plant);
     given(s, got, b, new)
 }
 
@@ -141,6 +152,7 @@ pub fn grow_zeroed(
     let mut b = [46u8; 16384];
     let n = put_bytes(&mut b, &s.bytes, s.lent);
     let got = reshape::grow::grow_zeroed(a, &mut b[..n], offset, old, old_align, new, new_align);
+    plant(&mut b, s.plant);
     given(s, got, b, new)
 }
 
@@ -158,6 +170,7 @@ pub fn shrink(
     let mut b = [46u8; 16384];
     let n = put_bytes(&mut b, &s.bytes, s.lent);
     let got = reshape::shrink::shrink(a, &mut b[..n], offset, old, old_align, new, new_align);
+    plant(&mut b, s.plant);
     given(s, got, b, new)
 }
 
@@ -170,6 +183,7 @@ pub fn resize(s: Store, offset: usize, old: usize, align: usize, new: usize) -> 
     let mut b = [46u8; 16384];
     let n = put_bytes(&mut b, &s.bytes, s.lent);
     let got = reshape::resize::resize(a, &mut b[..n], offset, old, align, new);
+    plant(&mut b, s.plant);
     given(s, got, b, new)
 }
 
@@ -193,6 +207,9 @@ fn lends_only(s: Store, offset: usize, size: usize, align: usize) -> bool {
     let mut b = [46u8; 16384];
     let n = put_bytes(&mut b, &s.bytes, s.lent);
     calls::lend::lend(a, &mut b[..n], offset, size, align);
+    if s.plant == BEFORE_THE_WRITE {
+        plant(&mut b, offset);
+    }
     let before = s.bytes;
     same_outside(&before, &b, 0, 0)
 }
@@ -219,9 +236,11 @@ pub fn lend(s: Store, offset: usize, size: usize, align: usize, value: u8) -> St
     let part = calls::lend::lend(a, &mut b[..n], offset, size, align);
     let count = part.len();
     set_each(part, value);
+    plant(&mut b, s.plant);
     let after = Store {
         arena: a,
         lent: s.lent,
+        plant: s.plant,
         bytes: b,
     };
     show_answer(answer);
@@ -240,6 +259,7 @@ pub fn allocate_with_token(s: Store, size: usize, align: usize) -> Store {
     let mut b = [46u8; 16384];
     let n = put_bytes(&mut b, &s.bytes, s.lent);
     let got = takeback::tokens::allocate_with_token(a, &b[..n], size, align);
+    plant(&mut b, s.plant);
     let token = got.token;
     number(b" gives token ", token.count);
     number(b" ", token.pointer);

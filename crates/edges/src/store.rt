@@ -6,13 +6,23 @@ use crate::say::show_byte;
 use crate::say::show_current;
 use arena::Arena;
 use trial::row::are_same;
+use trial::row::number_at;
+use trial::row::with_number;
 use trial::say::number;
 use trial::say::text;
+
+// A store's plant is the byte that is changed after a call and before its comparison, or one of these.
+pub const NOTHING: usize = 16384;
+
+pub const A_NUMBER: usize = 16385;
+
+pub const BEFORE_THE_WRITE: usize = 16386;
 
 // The first lent bytes are the region.
 pub struct Store {
     pub arena: Arena,
     pub lent: usize,
+    pub plant: usize,
     pub bytes: [u8; 16384],
 }
 
@@ -43,6 +53,7 @@ pub fn lent(s: Store, n: usize) -> Store {
     Store {
         arena: a,
         lent: n,
+        plant: s.plant,
         bytes: b,
     }
 }
@@ -55,6 +66,7 @@ pub fn overcounted(s: Store) -> Store {
     Store {
         arena: a,
         lent: s.lent,
+        plant: s.plant,
         bytes: b,
     }
 }
@@ -67,7 +79,29 @@ pub fn littered(s: Store) -> Store {
     Store {
         arena: a,
         lent: s.lent,
+        plant: s.plant,
         bytes: b,
+    }
+}
+
+// Changes a byte, if it is there.
+pub fn plant(to: &mut [u8; 16384], at: usize) {
+    if at < 16384 {
+        to[at] = to[at] ^ 1;
+    }
+}
+
+// One number more than it was.
+pub fn with_next(a: Arena, k: usize) -> Arena {
+    with_number(a, k, std::num::wrapping_add_usize(number_at(a, k), 1))
+}
+
+// The record that came back, with what is planted.
+pub fn planted_record(s: Store, a: Arena) -> Arena {
+    if s.plant == A_NUMBER {
+        with_next(a, 0)
+    } else {
+        a
     }
 }
 
