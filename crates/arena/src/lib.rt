@@ -1,4 +1,5 @@
 // The arena's record, and the rules of document 01 beneath every call: soundness, sizing, placing, the ladder, creation, limits, reset.
+#![tactic(auto)]
 
 pub mod change;
 pub mod creation;

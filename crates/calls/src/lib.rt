@@ -1,5 +1,7 @@
 // Allocate, free, copy in, fill and lend by value: the record goes in, and comes back beside the answer. `reshape` and `takeback` have the other calls, over what is
 // shared here.
+#![tactic(auto)]
+
 pub mod allocate;
 pub mod block;
 pub mod bytes;

@@ -1,4 +1,6 @@
 // Replays a tape of requests to the arena and writes a digest of its state after each: our side of compare/, which says what the numbers are.
+#![tactic(auto)]
+
 ghost use Rattle.std.specs.Prelude.{◌<◌};
 
 mod digest;

@@ -3,6 +3,8 @@
 //
 // Every number of a turn is read from a list, as a user's would be: nothing is known of it when the program is compiled, and nothing that is worked out
 // of it in one turn serves the next. The current chunk has room for 110 turns that take 48 bytes each.
+#![tactic(auto)]
+
 ghost use Rattle.std.specs.Prelude.{◌≡◌, ◌≤◌, ◌<◌};
 
 mod inner;

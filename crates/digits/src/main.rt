@@ -1,4 +1,6 @@
 // Prints the lines of requests whose numbers, offsets and held bytes have every length. Standard input is a table; the file stdout has the lines.
+#![tactic(auto)]
+
 mod machines;
 
 use crate::machines::{show_held, show_requests};

@@ -1,4 +1,6 @@
 // Runs document 01's boundaries through the public functions, a line for each call. The file stdout has the lines as they follow from document 01.
+#![tactic(auto)]
+
 mod blocks;
 mod creating;
 mod limits;

@@ -1,6 +1,8 @@
 // Additional entries for C and Rust: the record is lent in parts and changed in its place, so that it is not copied. Of each call there are two.
 // `miravoly_fast_*` tests the record as the entries of `host` do, and answers the same. `miravoly_sound_*` requires that the record is sound and that the
 // region is its own, for a host that keeps both to itself: then nothing but the call's own numbers is tested.
+#![tactic(auto)]
+
 pub mod allocate;
 pub mod cancel;
 pub mod copy_in;

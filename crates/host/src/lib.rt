@@ -1,4 +1,6 @@
 // The calls for C and Rust: the arena's record is lent and changed in place, and what a call answers is plain numbers.
+#![tactic(auto)]
+
 pub mod allocate;
 pub mod answers;
 pub mod create;

@@ -1,5 +1,7 @@
 // Runs the request files of a list and holds what they print to their lines. Each is run whole, in one window; a byte more at a time, with little room
 // for the lines; and cut in two at every byte.
+#![tactic(auto)]
+
 ghost use Rattle.std.specs.Prelude.{◌<◌};
 
 mod list;

@@ -1,4 +1,6 @@
 // Runs every call that can answer STATE on each record of a table, and holds the answers to the table's verdict. Standard input is the table.
+#![tactic(auto)]
+
 ghost use Rattle.std.specs.Prelude.{◌≤◌};
 
 mod ask;

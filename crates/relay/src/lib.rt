@@ -1,4 +1,6 @@
 // What the replay program does between two calls of the system: each step takes what a call answered, and says which call is asked for next.
+#![tactic(auto)]
+
 ghost use Rattle.std.specs.Prelude.{◌≡◌};
 ghost use Rattle.relay.specs.View.{begun_relay};
 

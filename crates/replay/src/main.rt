@@ -1,5 +1,7 @@
 // Document 01's replay program: the request file on standard input, its lines on standard output. What goes wrong with either is told on standard
 // error, and then there is no `held` line, since a file that was not read to its end has none.
+#![tactic(auto)]
+
 ghost use Rattle.std.specs.Prelude.{◌≡◌, ◌≤◌, length, take};
 ghost use Rattle.relay.specs.Passing.{is_over};
 ghost use Rattle.relay.specs.View.{Fits, GoesOn, Stopped};

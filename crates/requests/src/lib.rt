@@ -1,4 +1,6 @@
 // Document 01's request file: its records read and run, and the lines that they print.
+#![tactic(auto)]
+
 pub mod header;
 pub mod machine;
 pub mod print;

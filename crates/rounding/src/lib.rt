@@ -1,4 +1,6 @@
 // Rounding and powers of two, for every layer above. Where document 01 says "rounded up to" or "rounded down to", one of these is meant.
+#![tactic(auto)]
+
 ghost use Rattle.std.specs.Prelude.{◌≡◌, true, ◌&&◌, ◌+◌, ◌%◌, ◌^◌, ◌≤◌, ◌<◌, leb};
 ghost use Rattle.rounding.specs.Round.{round_down, round_up, multiple, one_bit, next_power};
 

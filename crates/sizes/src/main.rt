@@ -1,5 +1,7 @@
 // Says what the rules beneath the calls answer to a table of questions: usable sizes, rungs, ladders and places. Standard input is the table; the file
 // stdout has its lines with the answers, as they follow from document 01.
+#![tactic(auto)]
+
 ghost use Rattle.std.specs.Prelude.{◌≡◌, ◌≤◌, true};
 ghost use Rattle.arena.specs.Numbers.{most};
 ghost use Rattle.arena.specs.Sound.{allowed_align};

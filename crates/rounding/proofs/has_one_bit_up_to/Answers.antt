@@ -9,8 +9,7 @@ use borrow.Author.Tests.{le-leb, lt-leb, ltb-true, lt-ltb, eqb-true, eq-eqb}
 use Rattle.rounding.specs.Round.{one_bit}
 use Rattle.rounding.proofs.Powers.{no_ones, one-bit-power, power-positive}
 use Rattle.rounding.proofs.Tests.{and_left, and_right, and_both, refute, same, true-false}
-use Rattle.rounding.proofs.has_one_bit_up_to.Statement.{statement}
-use Rattle.rounding.proofs.has_one_bit_up_to.Tie as tie
+use Rattle.rounding.proofs.has_one_bit_up_to.Goals as goal
 
 module _ (n most : ℕ) where
   at_zero : n ≡ 0 → false ≡ (one_bit n && leb n most)
@@ -31,16 +30,12 @@ module _ (n most : ℕ) where
       same (λ t. and_both (eq-eqb (ones n) 1 (omega (arith, ltb-true (ones n) 2 t, some))) (le-leb n most l))
       (λ t. lt-ltb (ones n) 2 (omega (arith, eqb-true (ones n) 1 (and_left _ _ t))))
 
-returns : tie.Need-returns
-returns c = at_zero c.before.args.n c.before.args.most c.if1.true
+pub returns-then-n-eq0 : goal.returns-then-n-eq0
+returns-then-n-eq0 c = at_zero c.args.n c.args.most c.if-n-eq0.true
 
-returns-2 : tie.Need-returns-2
-returns-2 c = too_large c.before.before.args.n c.before.before.args.most c.if2.true
+pub returns-then-most-n : goal.returns-then-most-n
+returns-then-most-n c = too_large c.args.n c.args.most c.if-most-n.true
 
-returns-3 : tie.Need-returns-3
-returns-3 c =
-    let s = c.before.before in
-    within s.args.n s.args.most c.before.if1.false c.if2.false
-
-pub has-one-bit-up-to-spec : {M : Type 1} → statement M
-has-one-bit-up-to-spec = tie.close (tie.spec returns returns-2 returns-3)
+pub returns : goal.returns
+returns c =
+    within c.args.n c.args.most c.if-n-eq0.false c.if-most-n.false
