@@ -92,6 +92,7 @@ pub lowest-answered : (ts : List Test) {r : Refusal} → in_order ts ≡ true �
 lowest-answered ts {r} o l = go ts o l.applies l.lower
   where
     go : (us : List Test) → in_order us ≡ true → Applies r us → Each (λ t. number_of t.refusal < number_of r → t.applies ≡ false) us → refused_by us ≡ some r
+    go [] p a lower = elim a [ ]
     go (t ∷ us) p (here e a) lower = refused-now t us a ∙ ap some e
     go (t ∷ us) p (further a) lower =
         let larger = applies-among (λ n. number_of t.refusal < n) a (later-larger t us p) in

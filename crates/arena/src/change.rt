@@ -8,7 +8,7 @@ ghost use Rattle.arena.specs.Inner.{changed_by};
 use crate::reset::keep_current;
 use crate::{Arena, Chunk, Head};
 
-#[derive(Drop)]
+#[derive(Clone, Copy)]
 pub enum Change {
     Same,
     // The current pointer.

@@ -10,7 +10,7 @@ use crate::placing::{Place, lowest_place};
 use crate::sizing::{larger, usable_size};
 use crate::{Arena, Chunk, Head};
 
-#[derive(Drop)]
+#[derive(Clone, Copy)]
 pub enum NewChunk {
     Taken(Chunk),
     Nothing,

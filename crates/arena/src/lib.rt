@@ -13,7 +13,7 @@ pub mod table;
 
 // Everything of the record but its table. The limit is two numbers, so that no limit has one form: both zero.
 #[repr(C)]
-#[derive(Drop)]
+#[derive(Clone, Copy)]
 pub struct Head {
     pub region: usize,
     pub minimum: usize,
@@ -25,7 +25,7 @@ pub struct Head {
 // The table of held chunks, a column for each number, in the order taken; the last held one is current.
 // Plain numbers only, so that any bytes that a host lends are some record.
 #[repr(C)]
-#[derive(Drop)]
+#[derive(Clone, Copy)]
 pub struct Arena {
     pub head: Head,
     pub starts: [usize; 32],
@@ -34,7 +34,7 @@ pub struct Arena {
 }
 
 // One chunk, by value: its usable bytes are the size bytes from start, and those from pointer on are given out.
-#[derive(Drop)]
+#[derive(Clone, Copy)]
 pub struct Chunk {
     pub start: usize,
     pub size: usize,
@@ -42,7 +42,7 @@ pub struct Chunk {
 }
 
 // Document 01's refusals; the definition numberOf has their numbers.
-#[derive(Drop)]
+#[derive(Clone, Copy)]
 pub enum Refusal {
     State,
     Region,
@@ -54,13 +54,13 @@ pub enum Refusal {
     Room,
 }
 
-#[derive(Drop)]
+#[derive(Clone, Copy)]
 pub enum Answer {
     Done,
     Refused(Refusal),
 }
 
-#[derive(Drop)]
+#[derive(Clone, Copy)]
 pub struct Outcome {
     pub answer: Answer,
     pub arena: Arena,

@@ -9,7 +9,7 @@ ghost use Rattle.arena.specs.Inner.{Ready, Passed, place_of};
 use crate::table::chunk_at;
 use crate::{Arena, Chunk, Head};
 
-#[derive(Drop)]
+#[derive(Clone, Copy)]
 pub enum Place {
     At(usize),
     Nowhere,

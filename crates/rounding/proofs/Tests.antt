@@ -3,7 +3,6 @@
 use mathlib.Core.Bool.{Bool, true, false, not, ◌&&◌, ◌||◌, true≢false}
 use mathlib.Core.Logic.{◌⊎◌, inl, inr}
 use mathlib.Core.Path.{◌≡◌, refl, sym, ◌∙◌, ap}
-use borrow.Author.Tests.{not-true, not-false}
 
 -- a test holds or fails, and never both
 pub decided : (b : Bool) → (b ≡ true) ⊎ (b ≡ false)
@@ -69,8 +68,8 @@ pub false-not : {b : Bool} → b ≡ false → not b ≡ true
 false-not p = ap not p
 
 -- `if !f(..) { return ..; }`: which way the branch went tells the test that the callee answers
-pub taken_false : {answer test : Bool} → answer ≡ test → not answer ≡ true → test ≡ false
-taken_false {answer} e t = sym e ∙ not-true answer t
+pub taken_false : {answer test : Bool} → answer ≡ test → answer ≡ false → test ≡ false
+taken_false e f = sym e ∙ f
 
-pub left-true : {answer test : Bool} → answer ≡ test → not answer ≡ false → test ≡ true
-left-true {answer} e f = sym e ∙ not-false answer f
+pub left-true : {answer test : Bool} → answer ≡ test → answer ≡ true → test ≡ true
+left-true e t = sym e ∙ t

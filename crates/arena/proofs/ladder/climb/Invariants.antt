@@ -1,0 +1,11 @@
+-- `arena::ladder::climb` meets its contract. The invariant: the base is what some halvings of the first come to, and nothing before it is
+-- served. Each way out settles the ladder from there. Assumes nothing.
+use Rattle.arena.specs.Record.{chunks_of}
+use Rattle.arena.proofs.Rungs.{Climbed}
+use Rattle.arena.proofs.ladder.climb.Given as goal
+
+abbrev pub invariant-loop-h : goal.invariant-loop-h
+invariant-loop-h l = Climbed l.h (chunks_of l.starts l.sizes l.pointers l.h.count) l.size l.align l.base
+
+abbrev pub decreases-loop-h : goal.decreases-loop-h
+decreases-loop-h l = l.base

@@ -1,0 +1,18 @@
+-- `arena::placing::lowest_place` meets its contract. The invariant: no multiple below the offset fits. So an offset that stays where it is, is
+-- the lowest that fits, and past the last one in the region none is left. Assumes nothing.
+use Prim.Native.Nat.{ℕ, suc, ◌-◌, ◌<◌, ◌∣◌}
+use mathlib.Core.List.{List}
+use Rattle.arena.specs.declared.Chunk.{Chunk}
+use Rattle.arena.specs.Record.{chunks_of}
+use Rattle.arena.proofs.Lowest.{Fits}
+use Rattle.arena.proofs.placing.lowest_place.Given as goal
+
+abbrev pub NoneBelow : ℕ → List Chunk → ℕ → ℕ → ℕ → Type 0
+NoneBelow region cs n align at = (x : ℕ) → align ∣ x → x < at → Fits region cs n x → ⊥
+
+abbrev pub invariant-loop-at : goal.invariant-loop-at
+invariant-loop-at l =
+    (l.align ∣ l.at) × NoneBelow l.h.region (chunks_of l.starts l.sizes l.pointers l.h.count) l.n l.align l.at
+
+abbrev pub decreases-loop-at : goal.decreases-loop-at
+decreases-loop-at l = suc l.last - l.at
