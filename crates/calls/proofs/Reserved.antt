@@ -38,11 +38,11 @@ use Rattle.calls.proofs.Carrying.{grow-carries, grow-zeroed-carries, shrink-carr
 use Rattle.calls.proofs.Results.{Allocated, Replaced, allocate-result, grow-result, shrink-result, resize-result}
 
 -- chunks that are clear of c reserve no byte of c, and c reserves no byte of a block of theirs
-clear-unreserved : (c : Chunk) {cs : List Chunk} {x : ℕ} → Each (Clear c) cs → Reserved x cs → c.start ≤ x → x < end_of c → ⊥
+clear-unreserved : (c : Chunk) {x : ℕ} {cs : List Chunk} → Each (Clear c) cs → Reserved x cs → c.start ≤ x → x < end_of c → ⊥
 clear-unreserved c clear (of_current low high) a b = ⊎_elim (λ g. omega arith) (λ g. omega arith) clear.0
 clear-unreserved c clear (of_older r) a b = clear-unreserved c clear.1 r a b
 
-lies-clear : (c : Chunk) {cs : List Chunk} {offset size x : ℕ} → Each (Clear c) cs → Lies offset size cs → offset ≤ x → x < offset + size →
+lies-clear : (c : Chunk) {offset size x : ℕ} {cs : List Chunk} → Each (Clear c) cs → Lies offset size cs → offset ≤ x → x < offset + size →
     end_of c ≤ x → x < past_of c → ⊥
 lies-clear c clear (in-current low high) a b l h = ⊎_elim (λ g. omega arith) (λ g. omega arith) clear.0
 lies-clear c clear (in-older lies) a b l h = lies-clear c clear.1 lies a b l h

@@ -9,7 +9,7 @@ ghost use Rattle.calls.specs.Inner.{fast_of, current_pointer, Tested};
 use arena::table::chunk_at;
 use arena::{Chunk, Head};
 
-#[derive(Drop)]
+#[derive(Clone, Copy)]
 pub enum Fast {
     Room(usize),
     Full,

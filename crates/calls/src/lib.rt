@@ -15,47 +15,47 @@ use arena::change::Change;
 use arena::{Answer, Arena, Refusal};
 
 // What a call that gives out a block answers.
-#[derive(Drop)]
+#[derive(Clone, Copy)]
 pub enum Given {
     At(usize),
     Refused(Refusal),
 }
 
-#[derive(Drop)]
+#[derive(Clone, Copy)]
 pub struct Allocation {
     pub answer: Given,
     pub arena: Arena,
 }
 
 // What the inner form of such a call answers: the block, and what changes in the record, which stays with its holder.
-#[derive(Drop)]
+#[derive(Clone, Copy)]
 pub struct Placed {
     pub answer: Given,
     pub change: Change,
 }
 
 // The same of a call that ends a block.
-#[derive(Drop)]
+#[derive(Clone, Copy)]
 pub struct Ended {
     pub answer: Answer,
     pub change: Change,
 }
 
 // What allocate with a token records: the chunk count and the current pointer before it.
-#[derive(Drop)]
+#[derive(Clone, Copy)]
 pub struct Token {
     pub count: usize,
     pub pointer: usize,
 }
 
-#[derive(Drop)]
+#[derive(Clone, Copy)]
 pub struct TokenPlaced {
     pub answer: Given,
     pub token: Token,
     pub change: Change,
 }
 
-#[derive(Drop)]
+#[derive(Clone, Copy)]
 pub struct TokenAllocation {
     pub answer: Given,
     pub token: Token,

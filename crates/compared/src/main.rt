@@ -18,7 +18,7 @@ const DONE: usize = 4294967295;
 const REFUSED: usize = 2147483648;
 
 // The arena after a request, and what the request was answered. A token's two numbers are 0 where none was given.
-#[derive(Drop)]
+#[derive(Clone, Copy)]
 struct Turn {
     arena: Arena,
     lent: usize,
@@ -209,7 +209,7 @@ fn next_turn(t: Turn, space: &mut [u8], source: &mut [u8], record: &[u8]) -> Tur
     ask(t.arena, &mut space[..lent], source, record, code, p)
 }
 
-#[derive(Drop)]
+#[derive(Clone, Copy)]
 struct Piece {
     turn: Turn,
     put: usize,
@@ -258,7 +258,7 @@ fn run_piece(
 // The digests of a piece of 43,680 bytes, 1,820 records, fit in the output.
 const PIECE: usize = 43680;
 
-#[derive(Drop)]
+#[derive(Clone, Copy)]
 struct Reached {
     turn: Turn,
     open: bool,

@@ -21,7 +21,7 @@ use reshape::shrink::shrink_placed;
 use takeback::tokens::{allocate_with_token_placed, cancel_ended, is_bad_token};
 
 // What a turn asks for first.
-#[derive(Drop)]
+#[derive(Clone, Copy)]
 struct First {
     size: usize,
     align: usize,
@@ -38,7 +38,7 @@ fn first_of(numbers: &[usize; 1024], turn: usize) -> First
 }
 
 // What its second call names and asks for; nothing is 0.
-#[derive(Drop)]
+#[derive(Clone, Copy)]
 struct Second {
     old: usize,
     old_align: usize,

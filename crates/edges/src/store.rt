@@ -14,7 +14,7 @@ pub const A_NUMBER: usize = 16385;
 pub const BEFORE_THE_WRITE: usize = 16386;
 
 // The first lent bytes are the region.
-#[derive(Drop)]
+#[derive(Clone, Copy)]
 pub struct Store {
     pub arena: Arena,
     pub lent: usize,

@@ -19,7 +19,7 @@ use arena::Arena;
 
 // A refusal's number, or 0 where the call was not refused; and the block's offset, or 0 where there is none.
 #[repr(C)]
-#[derive(Drop)]
+#[derive(Clone, Copy)]
 pub struct Said {
     pub refusal: usize,
     pub offset: usize,
@@ -27,7 +27,7 @@ pub struct Said {
 
 // The same, with what the block's token records.
 #[repr(C)]
-#[derive(Drop)]
+#[derive(Clone, Copy)]
 pub struct SaidToken {
     pub refusal: usize,
     pub offset: usize,
@@ -37,7 +37,7 @@ pub struct SaidToken {
 
 // A refusal's number or 0, and the part of the region that is lent: 0 and 0 where it is refused.
 #[repr(C)]
-#[derive(Drop)]
+#[derive(Clone, Copy)]
 pub struct SaidPart {
     pub refusal: usize,
     pub offset: usize,
@@ -46,7 +46,7 @@ pub struct SaidPart {
 
 // The same of a step of the walk, with the number of parts that are left, this one counted: 0 after the last.
 #[repr(C)]
-#[derive(Drop)]
+#[derive(Clone, Copy)]
 pub struct SaidStep {
     pub refusal: usize,
     pub left: usize,
@@ -55,13 +55,13 @@ pub struct SaidStep {
 }
 
 // What an entry answers, and the record that it stores.
-#[derive(Drop)]
+#[derive(Clone, Copy)]
 pub struct Stored {
     pub said: Said,
     pub arena: Arena,
 }
 
-#[derive(Drop)]
+#[derive(Clone, Copy)]
 pub struct StoredToken {
     pub said: SaidToken,
     pub arena: Arena,

@@ -16,7 +16,7 @@ use arena::table::chunk_at;
 use arena::{Answer, Arena, Refusal};
 
 // The record holds the chunk table; index 0 is the newest chunk.
-#[derive(Drop)]
+#[derive(Clone, Copy)]
 pub struct Walk<'r> {
     pub region: &'r [u8],
     pub arena: Arena,

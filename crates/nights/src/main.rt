@@ -13,7 +13,7 @@ use crate::ways::{run_by_bytes, run_cut};
 // The longest file is a header, a record of 65,535 bytes and some more.
 const FILE: usize = 131072;
 
-#[derive(Drop)]
+#[derive(Clone, Copy)]
 enum Text {
     Same,
     // The first byte that is not as it should be.
@@ -21,14 +21,14 @@ enum Text {
 }
 
 // How many cuts give another text; of the first of them its place, and the first byte of its text that is not as it should be.
-#[derive(Drop)]
+#[derive(Clone, Copy)]
 struct Cuts {
     differ: usize,
     at: usize,
     place: usize,
 }
 
-#[derive(Drop)]
+#[derive(Clone, Copy)]
 struct Verdict {
     whole: Text,
     by_bytes: Text,

@@ -3,7 +3,7 @@ use crate::list::{lesser, within};
 use requests::machine::{State, feed, finish, start};
 
 // The state, and how many bytes of the file are taken and of the output written.
-#[derive(Drop)]
+#[derive(Clone, Copy)]
 struct Run {
     state: State,
     taken: usize,

@@ -6,7 +6,7 @@ use trial::say::{answer_number, given_number, text};
 pub const CALLS: usize = 16;
 
 // A refusal's number or 0, and the record handed back.
-#[derive(Drop)]
+#[derive(Clone, Copy)]
 pub struct Asked {
     pub refusal: usize,
     pub arena: Arena,

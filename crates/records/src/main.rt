@@ -15,7 +15,7 @@ use trial::say::{number, text};
 use trial::table::{Numbers, begins, find, lesser, read_numbers, within};
 
 // What a call was found to do.
-#[derive(Drop)]
+#[derive(Clone, Copy)]
 enum Found {
     AsTheTableSays,
     Answered(usize),

@@ -12,7 +12,7 @@ pub mod writing;
 use requests::machine::{State, start};
 
 // What is asked for: that the bytes in hand are fed, a read, a write, or nothing more. In the last three it went wrong, and that is to be told.
-#[derive(Drop)]
+#[derive(Clone, Copy)]
 pub enum Next {
     Feed,
     Read,
@@ -25,7 +25,7 @@ pub enum Next {
 
 // The machine's state; the bytes read and not taken yet, input[start..filled]; the text not written yet, output[from..to]; whether the input has
 // ended; and what is asked for.
-#[derive(Drop)]
+#[derive(Clone, Copy)]
 pub struct Relay {
     pub state: State,
     pub start: usize,

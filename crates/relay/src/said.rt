@@ -3,7 +3,7 @@ ghost use Rattle.std.specs.Prelude.{◌≡◌};
 ghost use Rattle.relay.specs.Event.{said_of};
 
 // A failure, one by a signal alone, that no byte was moved, or how many were.
-#[derive(Drop)]
+#[derive(Clone, Copy)]
 pub enum Said {
     Failed,
     Interrupted,

@@ -6,7 +6,7 @@ ghost use Rattle.requests.specs.Inner.{header_said};
 use crate::read::{number_at, wide};
 use arena::sound::is_allowed_minimum;
 
-#[derive(Drop)]
+#[derive(Clone, Copy)]
 pub enum Header {
     // A wrong or short one.
     Bad,

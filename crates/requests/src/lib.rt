@@ -11,7 +11,7 @@ pub mod window;
 use arena::Refusal;
 
 // A request, with its record's fields in their order.
-#[derive(Drop)]
+#[derive(Clone, Copy)]
 pub enum Request {
     // Size, align.
     Allocate(usize, usize),
@@ -33,7 +33,7 @@ pub enum Request {
 }
 
 // What stands at the front of the bytes: none, a part of a record, a bad one, or the bytes that a record takes and its request.
-#[derive(Drop)]
+#[derive(Clone, Copy)]
 pub enum Front {
     Nothing,
     Part,
@@ -42,7 +42,7 @@ pub enum Front {
 }
 
 // What a line says of a request.
-#[derive(Drop)]
+#[derive(Clone, Copy)]
 pub enum Reply {
     At(usize),
     Done,
@@ -50,7 +50,7 @@ pub enum Reply {
 }
 
 // Whether the header is still to come, requests are read, or a bad header or record has stopped the run.
-#[derive(Drop)]
+#[derive(Clone, Copy)]
 pub enum Stage {
     Heading,
     Running,

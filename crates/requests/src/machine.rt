@@ -20,7 +20,7 @@ use arena::sound::is_sound;
 use arena::{Arena, Head};
 
 // The stage, the next request's number, and the record.
-#[derive(Drop)]
+#[derive(Clone, Copy)]
 pub struct State {
     pub stage: Stage,
     pub number: usize,
@@ -28,7 +28,7 @@ pub struct State {
 }
 
 // The state after a window, how many of its bytes were taken, and how many of the output's are written.
-#[derive(Drop)]
+#[derive(Clone, Copy)]
 pub struct Fed {
     pub state: State,
     pub taken: usize,

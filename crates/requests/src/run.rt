@@ -18,7 +18,7 @@ use reshape::shrink::shrink_placed;
 use takeback::tokens::{allocate_with_token_placed, cancel_ended};
 
 // The reply to a request, and what it changes in the record.
-#[derive(Drop)]
+#[derive(Clone, Copy)]
 pub struct Ran {
     pub reply: Reply,
     pub change: Change,

@@ -14,7 +14,7 @@ use arena::change::make;
 pub const LINE: usize = 64;
 
 // The record and the next request's number, how many bytes of the window were taken, and how many of the output are written.
-#[derive(Drop)]
+#[derive(Clone, Copy)]
 pub struct Progress {
     pub arena: Arena,
     pub number: usize,

@@ -17,7 +17,7 @@ use trial::say::{number, text};
 use trial::table::{Numbers, begins, find, lesser, read_numbers};
 
 // What a rule says. It isn't asked where the record is unsound or the request isn't allowed.
-#[derive(Drop)]
+#[derive(Clone, Copy)]
 enum Said {
     Usable(usize),
     Chunk(Chunk),

@@ -44,14 +44,14 @@ pub fn begins(bytes: &[u8], word: &[u8]) -> bool {
 }
 
 // The numbers of a line in their order, 0 in the places after them. Those past the 136th are left out.
-#[derive(Drop)]
+#[derive(Clone, Copy)]
 pub struct Numbers {
     pub count: usize,
     pub of: [usize; 136],
 }
 
 // Open says that the last byte was a digit of a number of this value so far.
-#[derive(Drop)]
+#[derive(Clone, Copy)]
 struct Reading {
     numbers: Numbers,
     open: bool,

@@ -1,0 +1,10 @@
+-- `calls::allocate::allocate_placed` meets its contract: the fast part's pointer, or else the whole call. Assumes nothing.
+use mathlib.Core.Path.{sym}
+use borrow.Author.Rules.{rules}
+use Rattle.calls.proofs.allocate.allocate_placed.Goals as goal
+
+pub returns-in_default : goal.returns-in_default
+returns-in_default c = c.allocate_in_full.ensures
+
+pub returns : goal.returns
+returns c = c.allocate_fast.ensures _ c.in-Room.is

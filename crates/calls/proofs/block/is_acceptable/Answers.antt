@@ -1,0 +1,76 @@
+-- `calls::block::is_acceptable` meets its contract. The invariant: some held chunk has the block exactly where some of the chunks left has it, so the
+-- chunk at hand settles it or leaves it to the rest. Assumes nothing.
+use Prim.Native.Nat.{ℕ, ◌≤◌, ◌-◌}
+use native.Mathlib.Omega.{arith}
+use mathlib.Core.Path.{◌≡◌, refl, sym, ◌∙◌, ap}
+use mathlib.Core.List.{◌∷◌}
+use Rattle.rounding.specs.Every.{any}
+use Rattle.rounding.proofs.Tests.{taken_false, left-true}
+use Rattle.arena.specs.declared.Chunk.{Chunk}
+use Rattle.arena.specs.Record.{chunks_of, past_of}
+use Rattle.arena.proofs.View.{chunks-newest, chunks-at}
+use Rattle.calls.specs.Tests.{has_block, acceptable}
+use Rattle.calls.proofs.Some.{any-now, any-later, any_none}
+use Rattle.calls.proofs.block.is_acceptable.Goals as goal
+
+pub is_multiple_of_power-requires : goal.is_multiple_of_power-requires
+is_multiple_of_power-requires c = c.requires.align_value
+
+pub returns-then-not-is_multiple_of_power : goal.returns-then-not-is_multiple_of_power
+unfolding acceptable
+returns-then-not-is_multiple_of_power c = rw (taken_false c.is_multiple_of_power.ensures c.if-not-is_multiple_of_power.true)
+
+pub loop-left-init : goal.loop-left-init
+loop-left-init c = (omega arith, refl)
+
+pub chunk_at-c-requires : goal.chunk_at-c-requires
+chunk_at-c-requires c = omega (arith, c.requires.ready.count_bound)
+
+pub has_block-requires : goal.has_block-requires
+has_block-requires c =
+    let a = c.args in
+    let ready = c.requires.ready in
+    let within = chunks-at a.starts.now a.sizes.now a.pointers.now (λ d. past_of d ≤ a.h.region) {i = c.loop-left.left - 1} {k = a.h.count} (omega arith) ready.inside in
+    rw c.chunk_at-c.ensures (omega (arith, within, ready.region_bound))
+
+pub returns-then-has_block : goal.returns-then-has_block
+unfolding acceptable
+returns-then-has_block c =
+    let at-hand : (let a = c.args in let chunks = chunks_of a.starts.now a.sizes.now a.pointers.now in chunks c.loop-left.left ≡ c.chunk_at-c.result ∷ chunks (c.loop-left.left - 1)) = let a = c.args in
+    let chunks = chunks_of a.starts.now a.sizes.now a.pointers.now in
+    chunks-newest a.starts.now a.sizes.now a.pointers.now c.loop-left.left c.loop-left-test.true
+    ∙ ap (λ (d : Chunk). d ∷ chunks (c.loop-left.left - 1)) (sym c.chunk_at-c.ensures) in
+    let asked : (let a = c.args in let cs = chunks_of a.starts.now a.sizes.now a.pointers.now a.h.count in acceptable cs a.offset a.size a.align ≡ any (has_block a.offset a.size) cs) = rw (left-true c.is_multiple_of_power.ensures c.if-not-is_multiple_of_power.false) in
+    let a = c.args in
+    let test = has_block a.offset a.size in
+    sym
+    (asked
+    ∙ c.loop-left.invariant.1
+    ∙ ap (any test) at-hand
+    ∙ any-now test c.chunk_at-c.result _ (sym c.has_block.ensures ∙ c.if-has_block.true))
+
+pub loop-left-preserved : goal.loop-left-preserved
+loop-left-preserved c =
+    let at-hand : (let a = c.args in let chunks = chunks_of a.starts.now a.sizes.now a.pointers.now in chunks c.loop-left.left ≡ c.chunk_at-c.result ∷ chunks (c.loop-left.left - 1)) = let a = c.args in
+    let chunks = chunks_of a.starts.now a.sizes.now a.pointers.now in
+    chunks-newest a.starts.now a.sizes.now a.pointers.now c.loop-left.left c.loop-left-test.true
+    ∙ ap (λ (d : Chunk). d ∷ chunks (c.loop-left.left - 1)) (sym c.chunk_at-c.ensures) in
+    let a = c.args in
+    let test = has_block a.offset a.size in (
+      omega arith,
+      c.loop-left.invariant.1
+          ∙ ap (any test) at-hand
+          ∙ any-later test c.chunk_at-c.result _ (sym c.has_block.ensures ∙ c.if-has_block.false),
+    )
+
+pub returns : goal.returns
+unfolding chunks_of acceptable
+returns c =
+    let asked : (let a = c.args in let cs = chunks_of a.starts.now a.sizes.now a.pointers.now a.h.count in acceptable cs a.offset a.size a.align ≡ any (has_block a.offset a.size) cs) = rw (left-true c.is_multiple_of_power.ensures c.if-not-is_multiple_of_power.false) in
+    let a = c.args in
+    let none_left : c.loop-left.left ≡ 0 = omega arith in
+    sym
+    (asked
+    ∙ c.loop-left.invariant.1
+    ∙ ap (λ (k : ℕ). any (has_block a.offset a.size) (chunks_of a.starts.now a.sizes.now a.pointers.now k)) none_left
+    ∙ any_none (has_block a.offset a.size))

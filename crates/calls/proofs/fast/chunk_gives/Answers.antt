@@ -1,0 +1,67 @@
+-- `calls::fast::chunk_gives` meets its contract: the two tests settle whether the needed bytes stand above the start. Assumes nothing.
+use Prim.Native.Nat.{ℕ, max, ◌∣◌}
+use native.Mathlib.Nat.{le_antisymm, dvd_trans}
+use native.Mathlib.Omega.{arith}
+use mathlib.Core.Path.{◌≡◌, sym, ◌∙◌, ap}
+use Rattle.rounding.specs.Round.{round_up}
+use Rattle.rounding.proofs.Powers.{Power, one-bit-power, power-positive, power_divides, max_cases}
+use Rattle.rounding.proofs.Rounding.{up-at-least, up-near, up_multiple, up-stays, up-monotone, up_least}
+use Rattle.calls.specs.declared.fast.Fast.TheVariants.{Room}
+use Rattle.calls.specs.Allocate.{needed}
+use Rattle.calls.specs.Inner.{fast_of}
+use Rattle.calls.proofs.Carving.{chunk-gives}
+use Rattle.calls.proofs.Giving.{chunk-lacks}
+use borrow.Author.Rules.{rules}
+use Rattle.calls.proofs.fast.chunk_gives.Goals as goal
+
+-- rounded up to one power and then to the other, a number is rounded up to the larger
+up-twice : (n : ℕ) {p q : ℕ} → Power p → Power q → round_up (round_up n p) q ≡ round_up n (max p q)
+up-twice n {p} {q} hp hq =
+    max_cases (λ (m : ℕ). round_up (round_up n p) q ≡ round_up n m) p q
+    (λ l.
+    let both : p ∣ round_up n q = dvd_trans p (power_divides hp hq l) (up_multiple n q) in
+    le_antisymm (up_least (round_up n p) q (up_multiple n q) (up_least n p both (up-at-least n q (power-positive hq))))
+    (up-monotone q (up-at-least n p (power-positive hp))))
+    (λ l. up-stays q (dvd_trans q (power_divides hq hp l) (up_multiple n p)))
+
+pub up_to_power-aligned-requires : goal.up_to_power-aligned-requires
+up_to_power-aligned-requires c =
+    (c.requires.2, omega (arith, c.requires.3, c.requires.4))
+
+pub up_to_power-needed-requires : goal.up_to_power-needed-requires
+up_to_power-needed-requires c =
+    let a = c.args in
+    let near = up-near a.size a.align (power-positive (one-bit-power a.align c.requires.2)) in
+    (c.requires.0, omega (arith, c.up_to_power-aligned.ensures, near, c.requires.1, c.requires.3, c.requires.4))
+
+pub returns-then-top-needed : goal.returns-then-top-needed
+unfolding fast_of
+returns-then-top-needed c =
+    let needed-bytes : (let a = c.args in c.up_to_power-needed.result ≡ needed a.minimum a.size a.align) = let a = c.args in
+    c.up_to_power-needed.ensures
+    ∙ ap (λ (n : ℕ). round_up n a.minimum) c.up_to_power-aligned.ensures
+    ∙ up-twice a.size (one-bit-power a.align c.requires.2) (one-bit-power a.minimum c.requires.0) in
+    let a = c.args in
+    sym (ap fast_of (chunk-lacks a.minimum a.c a.size a.align (omega (arith, c.down_to_power-top.ensures, needed-bytes))))
+
+pub returns-then-p-c : goal.returns-then-p-c
+unfolding fast_of
+returns-then-p-c c =
+    let needed-bytes : (let a = c.args in c.up_to_power-needed.result ≡ needed a.minimum a.size a.align) = let a = c.args in
+    c.up_to_power-needed.ensures
+    ∙ ap (λ (n : ℕ). round_up n a.minimum) c.up_to_power-aligned.ensures
+    ∙ up-twice a.size (one-bit-power a.align c.requires.2) (one-bit-power a.minimum c.requires.0) in
+    let a = c.args in
+    sym (ap fast_of (chunk-lacks a.minimum a.c a.size a.align (omega (arith, c.down_to_power-top.ensures, needed-bytes))))
+
+pub returns : goal.returns
+unfolding fast_of
+returns c =
+    let needed-bytes : (let a = c.args in c.up_to_power-needed.result ≡ needed a.minimum a.size a.align) = let a = c.args in
+    c.up_to_power-needed.ensures
+    ∙ ap (λ (n : ℕ). round_up n a.minimum) c.up_to_power-aligned.ensures
+    ∙ up-twice a.size (one-bit-power a.align c.requires.2) (one-bit-power a.minimum c.requires.0) in
+    let a = c.args in
+    let top = c.down_to_power-top.ensures in
+    ap Room (omega (arith, top, needed-bytes))
+    ∙ sym (ap fast_of (chunk-gives a.minimum a.c a.size a.align (omega (arith, top, needed-bytes))))
