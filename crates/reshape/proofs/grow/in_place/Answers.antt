@@ -1,0 +1,68 @@
+-- `reshape::grow::in_place` meets its contract: each way out is a case of the pointer in place, and the bytes asked for stay within the maximum.
+-- Assumes nothing.
+use Prim.Native.Nat.{ℕ, ◌-◌, ◌∣◌}
+use native.Mathlib.Omega.{arith}
+use mathlib.Core.List.{List}
+use mathlib.Core.Path.{sym, ◌∙◌, ap}
+use Rattle.arena.specs.declared.Chunk.{Chunk}
+use Rattle.rounding.proofs.Powers.{power-positive, power-one-bit, two-to-the, power_divides}
+use Rattle.rounding.proofs.Rounding.{up-at-least, up_least}
+use Rattle.rounding.proofs.Tests.{taken_false, left-true}
+use Rattle.arena.specs.Numbers.{most}
+use Rattle.arena.specs.Record.{chunks_of}
+use Rattle.arena.proofs.Soundness.{sound-open}
+use Rattle.calls.specs.Inner.{fast_of, current_pointer}
+use Rattle.calls.proofs.Growing.{not-to-higher, not-elsewhere, there}
+use Rattle.reshape.proofs.grow.in_place.Goals as goal
+
+pub returns-then-old_align-new_align : goal.returns-then-old_align-new_align
+unfolding fast_of
+returns-then-old_align-new_align c =
+    let held : List Chunk = chunks_of c.args.starts.now c.args.sizes.now c.args.pointers.now c.args.h.count in
+    let s = c.args in
+    sym (ap fast_of (not-to-higher s.h.minimum held s.offset s.old s.old_align s.new s.new_align c.if-old_align-new_align.true))
+
+pub is_at_pointer-requires : goal.is_at_pointer-requires
+is_at_pointer-requires c = (sound-open _ c.requires.request.sound).head.count_bound
+
+pub returns-then-not-is_at_pointer : goal.returns-then-not-is_at_pointer
+unfolding fast_of
+returns-then-not-is_at_pointer c =
+    let held : List Chunk = chunks_of c.args.starts.now c.args.sizes.now c.args.pointers.now c.args.h.count in
+    let s = c.args in
+    sym
+    (ap fast_of
+    (not-elsewhere s.h.minimum held s.offset s.old s.old_align s.new s.new_align
+    (taken_false c.is_at_pointer.ensures c.if-not-is_at_pointer.true)))
+
+pub up_to_power-requires : goal.up_to_power-requires
+up_to_power-requires c =
+    let t = c.requires.request in
+    let head = (sound-open _ t.sound).head in
+    (power-one-bit head.minimum-power, omega (arith, t.size_bound, head.minimum-bound))
+
+pub overflow_sub-more : goal.overflow_sub-more
+overflow_sub-more c =
+    let head = (sound-open _ c.requires.request.sound).head in
+    omega (arith, c.up_to_power.ensures, c.requires.upwards, up-at-least c.args.new c.args.h.minimum (power-positive head.minimum-power))
+
+pub current_gives-requires : goal.current_gives-requires
+current_gives-requires c =
+    let head = (sound-open _ c.requires.request.sound).head in
+    let even : c.args.h.minimum ∣ most = power_divides head.minimum-power (two-to-the 30) (omega (arith, head.minimum-bound)) in
+    record {
+      sound = c.requires.request.sound;
+      size_bound = omega (arith, c.up_to_power.ensures, up_least c.args.new c.args.h.minimum even c.requires.request.size_bound);
+      align_allowed = c.requires.old_align_allowed;
+    }
+
+pub returns : goal.returns
+returns c =
+    let held : List Chunk = chunks_of c.args.starts.now c.args.sizes.now c.args.pointers.now c.args.h.count in
+    let s = c.args in
+    c.current_gives.ensures
+    ∙ ap (λ (top : ℕ). fast_of (current_pointer s.h.minimum held (top - s.old) s.old_align)) c.up_to_power.ensures
+    ∙ sym
+    (ap fast_of
+    (there s.h.minimum held s.offset s.old s.old_align s.new s.new_align c.if-old_align-new_align.false
+    (left-true c.is_at_pointer.ensures c.if-not-is_at_pointer.false)))
