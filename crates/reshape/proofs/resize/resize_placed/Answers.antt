@@ -117,9 +117,9 @@ returns c =
     c.resized_block-got.ensures
     ∙ sym (ap (λ o. given o own (resize_in own.head (held_of own) s.offset s.old s.align s.new)) passed) in
     let s = c.args in
-    let at = c.answer-1.given in record {
+    record {
       placed_by = answered;
       region_after = c.carry.ensures
-          ∙ ap (carried s.region.now s.offset at.0.0) c.smaller.ensures
-          ∙ bytes-shown (λ (to : ℕ). carried s.region.now s.offset to (min s.old s.new)) s.region.now answered at.1;
+          ∙ ap (carried s.region.now s.offset c.in-At.to) c.smaller.ensures
+          ∙ bytes-shown (λ (to : ℕ). carried s.region.now s.offset to (min s.old s.new)) s.region.now answered c.in-At.is;
     }
