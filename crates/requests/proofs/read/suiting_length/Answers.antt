@@ -7,54 +7,53 @@ use mathlib.Core.Path.{◌≡◌, sym, ap}
 use Rattle.requests.specs.Request.{forms}
 use Rattle.requests.specs.Inner.{size_by}
 use Rattle.requests.proofs.Codes.{size-absent, three-or-four}
-use Rattle.requests.proofs.read.suiting_length.Statement.{statement}
-use Rattle.requests.proofs.read.suiting_length.Tie as tie
+use Rattle.requests.proofs.read.suiting_length.Goals as goal
 
 at : {code k : ℕ} → code ≡ k → size_by forms k ≡ size_by forms code
 at e = sym (ap (size_by forms) e)
 
-returns : tie.Need-returns
+pub returns-in-5 : goal.returns-in-5
 unfolding size_by
-returns c = ⊎_elim (λ e. at e) (λ e. at e) c.match.keys1
+returns-in-5 c = ⊎_elim (λ e. at e) (λ e. at e) c.in-5.is
 
-returns-2 : tie.Need-returns-2
+pub returns-in-6 : goal.returns-in-6
 unfolding size_by
-returns-2 c = at c.match.keys2
+returns-in-6 c = at c.in-6.is
 
-returns-3 : tie.Need-returns-3
+pub returns-in-1 : goal.returns-in-1
 unfolding size_by
-returns-3 c = ⊎_elim (λ e. at e) (λ e. at e) c.match.keys3
+returns-in-1 c = ⊎_elim (λ e. at e) (λ e. at e) c.in-1.is
 
-returns-4 : tie.Need-returns-4
+pub returns-in-2 : goal.returns-in-2
 unfolding size_by
-returns-4 c = ⊎_elim (λ e. at e) (λ e. at e) c.match.keys4
+returns-in-2 c = ⊎_elim (λ e. at e) (λ e. at e) c.in-2.is
 
-returns-5 : tie.Need-returns-5
+pub returns-in-10 : goal.returns-in-10
 unfolding size_by
-returns-5 c = at c.match.keys5
+returns-in-10 c = at c.in-10.is
 
 -- the range's arm comes after those of 1 and 2
-returns-6 : tie.Need-returns-6
+pub returns-in-3-to-4 : goal.returns-in-3-to-4
 unfolding size_by
-returns-6 c =
-    let rest = c.before.before.match.rest in
-    let code = c.before.before.before.args.code in
+returns-in-3-to-4 c =
+    let rest = c.in-3-to-4.in_default-own.rest in
+    let code = c.args.code in
     let one : code ≡ 1 → ⊥ = λ e. rest.0.0.1 (inl e) in
     let two : code ≡ 2 → ⊥ = λ e. rest.0.1 (inl e) in
-    ⊎_elim (λ e. at e) (λ e. at e) (three-or-four code (omega arith) c.if2.true)
+    ⊎_elim (λ e. at e) (λ e. at e) (three-or-four code (omega arith) c.in-3-to-4.if-code-lt5-own.true)
 
-returns-7 : tie.Need-returns-7
-returns-7 c = sym (size-absent forms c.before.before.args.code (omega arith))
+pub returns-in_default : goal.returns-in_default
+returns-in_default c = sym (size-absent forms c.args.code (omega arith))
 
-returns-8 : tie.Need-returns-8
-returns-8 c =
-    let rest = c.before.before.match.rest in
+pub returns-in_default-2 : goal.returns-in_default-2
+returns-in_default-2 c =
+    let rest = c.in_default.in_default-own.rest in
     let fives = rest.0.0.0.0.1 in
     let ones = rest.0.0.1 in
     let twos = rest.0.1 in
-    let above = c.if2.false in
+    let above = c.in_default.if-code-lt5-own.false in
     sym
-    (size-absent forms c.before.before.before.args.code (
+    (size-absent forms c.args.code (
       λ e. ones (inl e),
       (
         λ e. twos (inl e),
@@ -70,6 +69,3 @@ returns-8 c =
         ),
       ),
     ))
-
-pub suiting-length-spec : {M : Type 1} → statement M
-suiting-length-spec = tie.close (tie.spec returns returns-2 returns-3 returns-4 returns-5 returns-6 returns-7 returns-8)

@@ -1,0 +1,18 @@
+-- `requests::print::put_number` meets its contract: the digits that the kit's `decimal` makes are the number's text. Assumes nothing.
+use native.Mathlib.Omega.{arith}
+use mathlib.Core.Path.{◌∙◌}
+use Rattle.requests.proofs.Decimal.{digits_decimal, fewest-bound}
+use borrow.Author.Rules.{rules}
+use Rattle.requests.proofs.print.put_number.Goals as goal
+
+pub put_text-requires : goal.put_text-requires
+put_text-requires c =
+    let d = c.decimal-k in
+    let bound = fewest-bound d.result _ c.ranges.n.fits d.ensures.len in
+    omega (arith, d.ensures.in_bounds, c.requires)
+
+pub returns : goal.returns
+returns c =
+    let d = c.decimal-k in
+    let bound = fewest-bound d.result _ c.ranges.n.fits d.ensures.len in
+    rw (← (d.ensures.digits ∙ digits_decimal d.result _ bound d.ensures.len)) c.put_text.ensures
