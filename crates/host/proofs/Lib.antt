@@ -1,16 +1,2 @@
-pub mod Copying
-pub mod Filling
-pub mod Lent
-pub mod Looking
-pub mod Moving
-pub mod New
-pub mod One
-pub mod Reading
-pub mod Recording
-pub mod Resizing
 pub mod Saying
-pub mod Shown
-pub mod Stepping
-pub mod Three
 pub mod Walking
-pub mod Zero
