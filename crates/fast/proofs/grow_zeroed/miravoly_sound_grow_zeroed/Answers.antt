@@ -1,0 +1,60 @@
+-- `fast::grow_zeroed::miravoly_sound_grow_zeroed` meets its contract: after a served grow the bytes past the old ones are cleared, and they lie in the region.
+-- Assumes nothing.
+use Prim.Native.Nat.{ℕ, ◌+◌, ◌-◌, ◌≤◌}
+use native.Mathlib.Omega.{arith}
+use mathlib.Core.List.{List}
+use mathlib.Core.Path.{sym, ap, ◌∙◌}
+use lib.ListN.{length, replicate}
+use Rattle.calls.specs.Bytes.{written, carried}
+use Rattle.calls.specs.Grow.{grow_bytes, grow_zeroed_bytes}
+use Rattle.calls.proofs.Changing.{BothInside, grow-served}
+use borrow.Author.Rules.{rules}
+use Rattle.fast.proofs.InParts.{said-served, served-bytes, unserved-bytes}
+use Rattle.fast.proofs.grow_zeroed.miravoly_sound_grow_zeroed.Goals as goal
+
+-- what carrying makes of the bytes, and then clearing
+abbrev moved : List ℕ → ℕ → ℕ → ℕ → List ℕ
+moved bytes offset old to = carried bytes offset to old
+
+abbrev cleared : List ℕ → ℕ → ℕ → ℕ → ℕ → List ℕ
+cleared bytes offset old new to = written (carried bytes offset to old) (to + old) (replicate (new - old) 0)
+
+pub returns-then-said-ne0 : goal.returns-then-said-ne0
+unfolding grow_bytes grow_zeroed_bytes
+returns-then-said-ne0 c =
+    let s = c.args in
+    record {
+      value = c.miravoly_sound_grow-said.ensures.value;
+      pointers_after = c.miravoly_sound_grow-said.ensures.pointers_after;
+      region_after = c.miravoly_sound_grow-said.ensures.region_after
+            ∙ sym (unserved-bytes _ (moved s.region.now s.offset s.old) s.region.now c.miravoly_sound_grow-said.ensures.value c.if-said-ne0.true)
+            ∙ unserved-bytes _ (cleared s.region.now s.offset s.old s.new) s.region.now c.miravoly_sound_grow-said.ensures.value c.if-said-ne0.true;
+    }
+
+pub overflow_add-said : goal.overflow_add-said
+overflow_add-said c =
+    let served : (let s = c.args in BothInside (length s.region.now) s.offset s.old c.miravoly_sound_grow-said.result.offset s.new × (s.old ≤ s.new)) = grow-served _ _ _ _ _ _ _ (said-served _ c.miravoly_sound_grow-said.ensures.value c.if-said-ne0.false) in
+    omega (arith, served.0.room, served.1)
+
+pub overflow_sub-new : goal.overflow_sub-new
+overflow_sub-new c =
+    let served : (let s = c.args in BothInside (length s.region.now) s.offset s.old c.miravoly_sound_grow-said.result.offset s.new × (s.old ≤ s.new)) = grow-served _ _ _ _ _ _ _ (said-served _ c.miravoly_sound_grow-said.ensures.value c.if-said-ne0.false) in
+    served.1
+
+pub fill-requires : goal.fill-requires
+fill-requires c =
+    let served : (let s = c.args in BothInside (length s.region.now) s.offset s.old c.miravoly_sound_grow-said.result.offset s.new × (s.old ≤ s.new)) = grow-served _ _ _ _ _ _ _ (said-served _ c.miravoly_sound_grow-said.ensures.value c.if-said-ne0.false) in
+    omega (arith, served.0.room, served.1, c.miravoly_sound_grow-said.auto.region)
+
+pub returns : goal.returns
+unfolding grow_bytes grow_zeroed_bytes
+returns c =
+    let s = c.args in
+    let left = c.if-said-ne0.false in record {
+      value = c.miravoly_sound_grow-said.ensures.value;
+      pointers_after = c.miravoly_sound_grow-said.ensures.pointers_after;
+      region_after = c.fill.ensures
+            ∙ ap (λ (bytes : List ℕ). written bytes (c.miravoly_sound_grow-said.result.offset + s.old) (replicate (s.new - s.old) 0))
+            (c.miravoly_sound_grow-said.ensures.region_after ∙ sym (served-bytes _ (moved s.region.now s.offset s.old) s.region.now c.miravoly_sound_grow-said.ensures.value left))
+            ∙ served-bytes _ (cleared s.region.now s.offset s.old s.new) s.region.now c.miravoly_sound_grow-said.ensures.value left;
+    }
