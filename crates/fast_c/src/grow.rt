@@ -1,0 +1,53 @@
+// Grow, in place.
+ghost use Rattle.std.specs.Prelude.{◌≡◌, true, length};
+ghost use Rattle.arena.specs.Sound.{sound_of};
+ghost use Rattle.calls.specs.Grow.{grow_of, grow_bytes};
+ghost use Rattle.host.specs.Said.{said_given};
+ghost use Rattle.fast.specs.Parts.{head_of, parts_of};
+
+use host::Said;
+
+#[unsafe(no_mangle)]
+pub extern "C" fn miravoly_sound_grow(
+    head: &mut [usize; 5],
+    starts: &mut [usize; 32],
+    sizes: &mut [usize; 32],
+    pointers: &mut [usize; 32],
+    region: &mut [u8],
+    offset: usize,
+    old: usize,
+    old_align: usize,
+    new: usize,
+    new_align: usize,
+) -> Said
+    requires { (sound_of (parts_of head.old starts.old sizes.old pointers.old) ≡ true) × (length region.old ≡ (head_of head.old).region) }
+    ensures value { result ≡ said_given (grow_of (parts_of head.old starts.old sizes.old pointers.old) (length region.old) offset old old_align new new_align).answer }
+    ensures pointers_after { parts_of head.new starts.new sizes.new pointers.new ≡ (grow_of (parts_of head.old starts.old sizes.old pointers.old) (length region.old) offset old old_align new new_align).arena }
+    ensures region_after { region.new ≡ grow_bytes (parts_of head.old starts.old sizes.old pointers.old) region.old offset old old_align new new_align }
+{
+    fast::grow::miravoly_sound_grow(
+        head, starts, sizes, pointers, region, offset, old, old_align, new, new_align,
+    )
+}
+
+#[unsafe(no_mangle)]
+pub extern "C" fn miravoly_fast_grow(
+    head: &mut [usize; 5],
+    starts: &mut [usize; 32],
+    sizes: &mut [usize; 32],
+    pointers: &mut [usize; 32],
+    region: &mut [u8],
+    offset: usize,
+    old: usize,
+    old_align: usize,
+    new: usize,
+    new_align: usize,
+) -> Said
+    ensures value { result ≡ said_given (grow_of (parts_of head.old starts.old sizes.old pointers.old) (length region.old) offset old old_align new new_align).answer }
+    ensures pointers_after { parts_of head.new starts.new sizes.new pointers.new ≡ (grow_of (parts_of head.old starts.old sizes.old pointers.old) (length region.old) offset old old_align new new_align).arena }
+    ensures region_after { region.new ≡ grow_bytes (parts_of head.old starts.old sizes.old pointers.old) region.old offset old old_align new new_align }
+{
+    fast::grow::miravoly_fast_grow(
+        head, starts, sizes, pointers, region, offset, old, old_align, new, new_align,
+    )
+}

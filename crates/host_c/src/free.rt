@@ -1,0 +1,15 @@
+// Free, for hosts.
+ghost use Rattle.std.specs.Prelude.{◌≡◌};
+ghost use Rattle.calls.specs.Free.{free_of};
+ghost use Rattle.host.specs.Said.{said_of};
+
+use arena::Arena;
+use host::Said;
+
+#[unsafe(no_mangle)]
+pub extern "C" fn miravoly_free(arena: &mut Arena, offset: usize, size: usize, align: usize) -> Said
+    ensures value { result ≡ said_of (free_of arena.old offset size align).answer }
+    ensures arena_after { arena.new ≡ (free_of arena.old offset size align).arena }
+{
+    host::free::miravoly_free(arena, offset, size, align)
+}

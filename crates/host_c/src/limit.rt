@@ -1,0 +1,23 @@
+// The limit calls, for hosts.
+ghost use Rattle.std.specs.Prelude.{◌≡◌};
+ghost use Rattle.arena.specs.Creation.{set_limit_of, no_limit_of};
+ghost use Rattle.host.specs.Said.{said_of};
+
+use arena::Arena;
+use host::Said;
+
+#[unsafe(no_mangle)]
+pub extern "C" fn miravoly_set_limit(arena: &mut Arena, limit: usize) -> Said
+    ensures value { result ≡ said_of (set_limit_of arena.old limit).answer }
+    ensures arena_after { arena.new ≡ (set_limit_of arena.old limit).arena }
+{
+    host::limit::miravoly_set_limit(arena, limit)
+}
+
+#[unsafe(no_mangle)]
+pub extern "C" fn miravoly_no_limit(arena: &mut Arena) -> Said
+    ensures value { result ≡ said_of (no_limit_of arena.old).answer }
+    ensures arena_after { arena.new ≡ (no_limit_of arena.old).arena }
+{
+    host::limit::miravoly_no_limit(arena)
+}
