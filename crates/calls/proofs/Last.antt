@@ -1,7 +1,7 @@
 -- The last block given out: where it lies in the current chunk no test of a named block refuses it, and none of a grow or a shrink of it. Assumes nothing.
-use Prim.Native.Nat.{ℕ, ◌+◌, ◌-◌, ◌≤◌, ◌<◌}
+use Prim.Native.Nat.{ℕ, ◌+◌, ◌≤◌}
 use native.Mathlib.Omega.{arith}
-use mathlib.Core.Bool.{Bool, true, false, cond, ◌&&◌, ◌||◌}
+use mathlib.Core.Bool.{Bool, true, false, cond, ◌&&◌}
 use mathlib.Core.List.{List, ◌∷◌}
 use mathlib.Core.Option.{none}
 use mathlib.Core.Path.{◌≡◌, refl, ◌∙◌, ap}
@@ -14,8 +14,7 @@ use Rattle.arena.specs.declared.Arena.{Arena}
 use Rattle.arena.specs.declared.Chunk.{Chunk}
 use Rattle.arena.specs.Numbers.{most}
 use Rattle.arena.specs.Record.{end_of, held_of}
-use Rattle.arena.specs.Refusals.{refused_by}
-use Rattle.arena.specs.Sound.{allowed_align, sound_of}
+use Rattle.arena.specs.Sound.{allowed_align}
 use Rattle.arena.proofs.Refusing.{none-applies}
 use Rattle.arena.proofs.Soundness.{ChunkSound}
 use Rattle.calls.specs.Allocate.{at_pointer, given}

@@ -1,13 +1,13 @@
 -- A part of a buffer that grows at its end, or is used up from its front. Assumes nothing.
-use Prim.Native.Nat.{ℕ, ◌+◌, ◌-◌, ◌≤◌, ◌<◌}
+use Prim.Native.Nat.{ℕ, ◌+◌, ◌-◌, ◌≤◌}
 use native.Mathlib.Nat.{le_of_eq}
 use native.Mathlib.Omega.{arith}
 use mathlib.Core.Bool.{Bool, true, false, cond}
-use mathlib.Core.List.{List, [], ◌++◌}
+use mathlib.Core.List.{List, ◌++◌}
 use mathlib.Core.Path.{◌≡◌, refl, sym, ap, ◌∙◌}
 use lib.Dec.{ltb}
 use lib.ListN.{length, take, drop, length-take, length-drop, drop_of_length-le}
-use lib.Seq.{length-take-le, take-add, take_all, drop_at, drop-drop}
+use lib.Seq.{take-add, take_all, drop_at, drop-drop}
 use borrow.Author.Tests.{ltb-false}
 use Rattle.calls.specs.Bytes.{part}
 use Rattle.calls.proofs.Writing.{length_part}

@@ -1,11 +1,11 @@
 -- Each step of the code shows the passage after its event. Assumes nothing.
-use Prim.Native.Nat.{ℕ, zero, ◌+◌, ◌-◌, ◌≤◌, ◌<◌}
+use Prim.Native.Nat.{ℕ, ◌+◌, ◌-◌, ◌≤◌, ◌<◌}
 use native.Mathlib.Omega.{arith}
 use mathlib.Core.Bool.{Bool, true, false, ◌&&◌, cond}
 use mathlib.Core.List.{List, [], ◌∷◌, ◌++◌}
 use mathlib.Core.Path.{◌≡◌, refl, sym, ap, ◌∙◌, subst}
 use mathlib.Core.Logic.{◌⊎◌, inl, inr}
-use lib.Dec.{leb, ltb, eqb}
+use lib.Dec.{leb, ltb}
 use lib.ListN.{length, take, drop, length-take, length-drop, take-append-drop, drop_of_length-le}
 use borrow.Author.Tests.{lt-ltb, le-ltb, eq-eqb, ne_eqb, ltb-true, ltb-false}
 use Rattle.arena.specs.Sound.{sound_of}
@@ -20,8 +20,8 @@ use Rattle.requests.proofs.Putting.{put-taken}
 use Rattle.relay.specs.declared.Next.{Next}
 use Rattle.relay.specs.declared.Next.TheVariants.{Feed, Read, Write, Done, ReadFailed, WriteFailed, TooLong}
 use Rattle.relay.specs.declared.Relay.{Relay}
-use Rattle.relay.specs.Passage.{Passage, passage_at, lent_bytes, asked}
-use Rattle.relay.specs.Event.{Event, feeds, gives, ends, read_fails, takes, write_fails, interrupts, Sizes, sizes, stepped, asks_fed, after_fed, after_got, after_end, asks_took, after_took, fed_on, read_on, written_on, goes_on, after_event}
+use Rattle.relay.specs.Passage.{Passage, passage_at}
+use Rattle.relay.specs.Event.{Event, feeds, gives, ends, read_fails, takes, write_fails, interrupts, sizes, asks_fed, after_fed, asks_took, after_took, fed_on, read_on, written_on, goes_on, after_event}
 use Rattle.relay.specs.View.{relay_at, Fits, passage_of, Shows, asking, filled_by, written_by}
 use Rattle.relay.proofs.Parts.{part_filled, part-used, part-used-up}
 

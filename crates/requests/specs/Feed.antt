@@ -1,6 +1,6 @@
 -- Feeding the machine a window of the file at a time. How much is taken and written at once decides nothing of document 01: the machine, fed the bytes
 -- that were taken, comes to the same (Pieces.antt).
-use Rattle.std.specs.Prelude.{ℕ, ◌+◌, ◌-◌, Bool, true, false, ◌&&◌, cond, List, [], ◌++◌, ◌≡◌, length, take, drop, leb}
+use Rattle.std.specs.Prelude.{ℕ, ◌-◌, Bool, true, false, ◌&&◌, cond, List, [], ◌++◌, ◌≡◌, length, take, drop, leb}
 use Rattle.arena.specs.declared.Arena.{Arena}
 use Rattle.arena.specs.Record.{holding}
 use Rattle.arena.specs.Sound.{sound_of}

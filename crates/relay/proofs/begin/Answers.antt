@@ -1,7 +1,6 @@
 -- `relay::begin` meets its contract: the machine's first state, and nothing in hand. Assumes nothing.
 use mathlib.Core.Bool.{false}
 use mathlib.Core.Path.{ap}
-use borrow.Author.Rules.{rules}
 use Rattle.requests.specs.declared.machine.State.{State}
 use Rattle.relay.specs.declared.Next.TheVariants.{Feed}
 use Rattle.relay.specs.View.{relay_at}

@@ -7,7 +7,6 @@ use Rattle.arena.specs.Sound.{sound_of}
 use Rattle.rounding.proofs.Tests.{taken_false, left-true}
 use Rattle.calls.specs.Allocate.{allocate_of}
 use Rattle.calls.proofs.Requests.{allocate-state, allocate-region}
-use borrow.Author.Rules.{rules}
 use Rattle.calls.proofs.allocate.allocate.Goals as goal
 
 pub returns-then-not-is_sound : goal.returns-then-not-is_sound

@@ -7,7 +7,6 @@ use Rattle.calls.proofs.Cases.{fast-room, full-no-room}
 use Rattle.calls.proofs.Giving.{current-moved, from-current}
 use Rattle.calls.proofs.Placing.{placed-moved}
 use Rattle.calls.proofs.Requests.{allocate-works}
-use borrow.Author.Rules.{rules}
 use Rattle.calls.proofs.allocate.allocate_fast.Goals as goal
 
 pub returns-then-h-eq0 : goal.returns-then-h-eq0

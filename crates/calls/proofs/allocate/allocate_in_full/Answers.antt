@@ -11,7 +11,6 @@ use Rattle.calls.proofs.Cases.{fast-room, fast-full}
 use Rattle.calls.proofs.Giving.{current-lacks, current-moved, from-current, from-ladder}
 use Rattle.calls.proofs.Placing.{placed-refused, placed-moved}
 use Rattle.calls.proofs.Requests.{allocate-size, allocate-align, allocate-works}
-use borrow.Author.Rules.{rules}
 use Rattle.calls.proofs.allocate.allocate_in_full.Goals as goal
 
 pub returns-then-size-gt-MOST : goal.returns-then-size-gt-MOST

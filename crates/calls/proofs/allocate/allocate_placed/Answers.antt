@@ -1,6 +1,4 @@
 -- `calls::allocate::allocate_placed` meets its contract: the fast part's pointer, or else the whole call. Assumes nothing.
-use mathlib.Core.Path.{sym}
-use borrow.Author.Rules.{rules}
 use Rattle.calls.proofs.allocate.allocate_placed.Goals as goal
 
 pub returns-in_default : goal.returns-in_default

@@ -14,14 +14,13 @@ use Rattle.calls.specs.Allocate.{new_chunk_gives}
 use Rattle.calls.proofs.Cases.{fast-room, fast-full}
 use Rattle.calls.proofs.Giving.{tested-bounds, new-chunk-gives}
 use Rattle.calls.proofs.Placing.{placed-nowhere, placed-added}
-use borrow.Author.Rules.{rules}
 use Rattle.calls.proofs.allocate.placed_slow.Goals as goal
 
 pub climb-requires : goal.climb-requires
 climb-requires c = record {
-      ready = sound-ready (sound-open _ c.requires.sound);
-      size_le_most = (c.requires.size_bound, c.requires.align_allowed);
-    }
+  ready = sound-ready (sound-open _ c.requires.sound);
+  size_le_most = (c.requires.size_bound, c.requires.align_allowed);
+}
 
 pub returns-in_default : goal.returns-in_default
 unfolding new_chunk_gives

@@ -1,16 +1,10 @@
 -- `calls::block::is_acceptable` meets its contract. The invariant: some held chunk has the block exactly where some of the chunks left has it, so the
 -- chunk at hand settles it or leaves it to the rest. Assumes nothing.
-use Prim.Native.Nat.{ℕ, ◌≤◌, ◌-◌}
-use native.Mathlib.Omega.{arith}
-use mathlib.Core.Path.{◌≡◌, refl, sym, ◌∙◌, ap}
-use mathlib.Core.List.{◌∷◌}
+use Prim.Native.Nat.{◌≤◌}
+use mathlib.Core.Path.{◌≡◌}
 use Rattle.rounding.specs.Every.{any}
-use Rattle.rounding.proofs.Tests.{taken_false, left-true}
-use Rattle.arena.specs.declared.Chunk.{Chunk}
-use Rattle.arena.specs.Record.{chunks_of, past_of}
-use Rattle.arena.proofs.View.{chunks-newest, chunks-at}
-use Rattle.calls.specs.Tests.{has_block, acceptable}
-use Rattle.calls.proofs.Some.{any-now, any-later, any_none}
+use Rattle.arena.specs.Record.{chunks_of}
+use Rattle.calls.specs.Tests.{has_block}
 use Rattle.calls.proofs.block.is_acceptable.Given as goal
 
 abbrev pub invariant-loop-left : goal.invariant-loop-left

@@ -4,7 +4,6 @@ use mathlib.Core.Path.{sym, ap}
 use Rattle.arena.specs.Record.{chunks_of}
 use Rattle.arena.proofs.View.{chunks-newest}
 use Rattle.calls.specs.Allocate.{at_pointer}
-use borrow.Author.Rules.{rules}
 use Rattle.calls.proofs.block.is_at_pointer.Goals as goal
 
 pub returns-then-count-eq0 : goal.returns-then-count-eq0

@@ -11,7 +11,6 @@ use Rattle.arena.specs.Sound.{allowed_align}
 use Rattle.arena.proofs.Soundness.{Sound, ChunkSound, sound-open, align-open}
 use Rattle.calls.proofs.Last.{last_block}
 use Rattle.calls.proofs.Reading.{read-newest, read-sound, read-end}
-use borrow.Author.Rules.{rules}
 use Rattle.calls.proofs.block.is_last_block.Goals as goal
 
 pub returns-then-count-eq0 : goal.returns-then-count-eq0

@@ -3,7 +3,6 @@
 use mathlib.Core.Path.{◌≡◌, sym, ap, ◌∙◌}
 use Prim.Native.Nat.{ℕ}
 use native.Mathlib.Omega.{arith}
-use borrow.Author.Rules.{rules}
 use Rattle.calls.specs.Bytes.{carried}
 use Rattle.calls.proofs.Writing.{carried-stays}
 use Rattle.calls.proofs.bytes.carry.Goals as goal

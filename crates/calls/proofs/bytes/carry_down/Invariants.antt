@@ -1,13 +1,9 @@
 -- `calls::bytes::carry_down` meets its contract: after i turns the first i bytes are carried, and the next one stands as it did.
 -- Assumes nothing.
-use mathlib.Core.Path.{◌≡◌, refl, sym, ap, ◌∙◌}
-use mathlib.Core.List.{List}
-use Prim.Native.Nat.{ℕ, ◌+◌, ◌-◌, ◌≤◌}
-use native.Mathlib.Omega.{arith}
-use borrow.Author.Rules.{rules}
+use mathlib.Core.Path.{◌≡◌}
+use Prim.Native.Nat.{◌-◌, ◌≤◌}
 use lib.ListN.{length}
 use Rattle.calls.specs.Bytes.{carried}
-use Rattle.calls.proofs.Writing.{carried-nothing, carried-one, carried_first}
 use Rattle.calls.proofs.bytes.carry_down.Given as goal
 
 abbrev pub invariant-loop-i : goal.invariant-loop-i

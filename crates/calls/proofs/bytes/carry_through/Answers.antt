@@ -3,7 +3,6 @@
 use mathlib.Core.Path.{◌≡◌, ap, ◌∙◌}
 use Prim.Native.Nat.{◌+◌, ◌-◌}
 use native.Mathlib.Omega.{arith}
-use borrow.Author.Rules.{rules}
 use lib.ListN.{length}
 use Rattle.calls.specs.Bytes.{part}
 use Rattle.calls.proofs.Writing.{carried-block}

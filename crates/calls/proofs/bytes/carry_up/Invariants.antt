@@ -1,13 +1,9 @@
 -- `calls::bytes::carry_up` meets its contract: to carry the bytes that are left makes the whole, at each turn.
 -- Assumes nothing.
-use mathlib.Core.Path.{◌≡◌, sym, ap, ◌∙◌}
-use mathlib.Core.List.{List}
-use Prim.Native.Nat.{ℕ, ◌+◌, ◌-◌, ◌≤◌}
-use native.Mathlib.Omega.{arith}
-use borrow.Author.Rules.{rules}
+use mathlib.Core.Path.{◌≡◌}
+use Prim.Native.Nat.{◌≤◌}
 use lib.ListN.{length}
 use Rattle.calls.specs.Bytes.{carried}
-use Rattle.calls.proofs.Writing.{carried-nothing, carried-one, carried-last}
 use Rattle.calls.proofs.bytes.carry_up.Given as goal
 
 abbrev pub invariant-loop-left : goal.invariant-loop-left

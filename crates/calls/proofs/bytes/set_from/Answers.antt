@@ -1,11 +1,8 @@
 -- `calls::bytes::set_from` meets its contract: after i turns the part agrees with the source on the first i bytes.
 -- Assumes nothing.
-use mathlib.Core.Path.{◌≡◌}
-use Prim.Native.Nat.{ℕ, ◌-◌, ◌≤◌, ◌<◌}
 use native.Mathlib.Omega.{arith}
 use borrow.Author.Count.{below_more}
 use borrow.Author.Rules.{rules}
-use lib.ListN.{length, get_or}
 use lib.Seq.{ext_get_or}
 use Rattle.calls.proofs.bytes.set_from.Goals as goal
 

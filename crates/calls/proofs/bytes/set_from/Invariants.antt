@@ -2,11 +2,7 @@
 -- Assumes nothing.
 use mathlib.Core.Path.{◌≡◌}
 use Prim.Native.Nat.{ℕ, ◌-◌, ◌≤◌, ◌<◌}
-use native.Mathlib.Omega.{arith}
-use borrow.Author.Count.{below_more}
-use borrow.Author.Rules.{rules}
 use lib.ListN.{length, get_or}
-use lib.Seq.{ext_get_or}
 use Rattle.calls.proofs.bytes.set_from.Given as goal
 
 abbrev pub invariant-loop-i : goal.invariant-loop-i

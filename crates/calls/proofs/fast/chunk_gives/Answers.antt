@@ -11,7 +11,6 @@ use Rattle.calls.specs.Allocate.{needed}
 use Rattle.calls.specs.Inner.{fast_of}
 use Rattle.calls.proofs.Carving.{chunk-gives}
 use Rattle.calls.proofs.Giving.{chunk-lacks}
-use borrow.Author.Rules.{rules}
 use Rattle.calls.proofs.fast.chunk_gives.Goals as goal
 
 -- rounded up to one power and then to the other, a number is rounded up to the larger

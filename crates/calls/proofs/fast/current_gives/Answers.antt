@@ -10,7 +10,6 @@ use Rattle.arena.proofs.View.{chunks-newest}
 use Rattle.calls.specs.Allocate.{chunk_gives}
 use Rattle.calls.specs.Inner.{fast_of, current_pointer}
 use Rattle.calls.proofs.Giving.{tested-bounds}
-use borrow.Author.Rules.{rules}
 use Rattle.calls.proofs.fast.current_gives.Goals as goal
 
 pub returns-then-count-eq0 : goal.returns-then-count-eq0

@@ -5,7 +5,6 @@ use Rattle.arena.specs.Record.{record_of}
 use Rattle.calls.proofs.Freeing.{free-block, free-works}
 use Rattle.calls.proofs.Placing.{ended-refused}
 use Rattle.calls.proofs.Testing.{tests-refuse, tests-pass, block-passes, block_inside}
-use borrow.Author.Rules.{rules}
 use Rattle.calls.proofs.free.free_ended.Goals as goal
 
 pub returns-in-Refused : goal.returns-in-Refused

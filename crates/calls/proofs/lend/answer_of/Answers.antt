@@ -1,6 +1,5 @@
 -- `calls::lend::answer_of` meets its contract: the lent region's refusal, or else the block's answer. Assumes nothing.
 use mathlib.Core.Path.{sym, ◌∙◌}
-use borrow.Author.Rules.{rules}
 use Rattle.calls.proofs.Lending.{lend-refused, lend-rest}
 use Rattle.calls.proofs.Testing.{tests-refuse, tests-pass, lent-passes}
 use Rattle.calls.proofs.lend.answer_of.Goals as goal

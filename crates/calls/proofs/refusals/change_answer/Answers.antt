@@ -6,7 +6,6 @@ use mathlib.Core.List.{List, [], ◌∷◌}
 use mathlib.Core.Option.{none, some}
 use mathlib.Core.Path.{◌≡◌, sym, ◌∙◌, ap}
 use lib.Dec.{ltb}
-use borrow.Author.Rules.{rules}
 use borrow.Author.Tests.{lt-ltb, le-ltb}
 use Rattle.rounding.proofs.Powers.{power-one-bit}
 use Rattle.rounding.proofs.Tests.{taken_false, left-true, true-not, false-not, or_left, or_right, or-neither}

@@ -15,7 +15,6 @@ use Rattle.calls.specs.Write.{copy_in_bytes}
 use Rattle.calls.proofs.Allocated.{allocated-inside}
 use Rattle.calls.proofs.Answering.{bytes-shown}
 use Rattle.calls.proofs.Requests.{allocate-state, allocate-region}
-use borrow.Author.Rules.{rules}
 use Rattle.calls.proofs.write.copy_in.Goals as goal
 
 pub returns-then-not-is_sound : goal.returns-then-not-is_sound

@@ -5,7 +5,6 @@ use Rattle.arena.specs.declared.Arena.{Arena}
 use Rattle.arena.proofs.Soundness.{sound-open}
 use Rattle.calls.specs.Allocate.{allocate_of}
 use Rattle.fast.proofs.InParts.{as_read, sound-as-read, moved-in-parts}
-use borrow.Author.Rules.{rules}
 use Rattle.fast.proofs.allocate.miravoly_sound_allocate.Goals as goal
 
 pub returns-then-h-eq0 : goal.returns-then-h-eq0
@@ -32,6 +31,6 @@ bounds-pointers-last c =
 pub returns : goal.returns
 returns c =
     let both =
-      moved-in-parts (λ (a : Arena). allocate_of a a.head.region c.args.size c.args.align) c.args.head.now c.args.starts.now c.args.sizes.now
-      c.args.pointers.now c.in-Room.p c.head_of-h.ensures c.requires c.if-h-eq0.false (c.allocate_fast.ensures c.in-Room.p c.in-Room.is) in
+    moved-in-parts (λ (a : Arena). allocate_of a a.head.region c.args.size c.args.align) c.args.head.now c.args.starts.now c.args.sizes.now
+    c.args.pointers.now c.in-Room.p c.head_of-h.ensures c.requires c.if-h-eq0.false (c.allocate_fast.ensures c.in-Room.p c.in-Room.is) in
     record { value = both.0; pointers_after = both.1 }

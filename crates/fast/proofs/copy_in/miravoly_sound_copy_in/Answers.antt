@@ -1,14 +1,12 @@
 -- `fast::copy_in::miravoly_sound_copy_in` meets its contract: the block that was given lies in the region. Assumes nothing.
 use Prim.Native.Nat.{ℕ}
-use mathlib.Core.Path.{◌≡◌, sym, ap, ◌∙◌}
+use mathlib.Core.Path.{◌≡◌, ◌∙◌}
 use lib.ListN.{length}
-use Rattle.arena.specs.declared.Arena.{Arena}
 use Rattle.host.specs.Said.{said_given}
 use Rattle.calls.specs.Allocate.{allocate_of}
 use Rattle.calls.specs.Bytes.{written}
 use Rattle.calls.specs.Write.{copy_in_bytes}
 use Rattle.calls.proofs.Allocated.{allocated-inside}
-use borrow.Author.Rules.{rules}
 use Rattle.fast.specs.Parts.{parts_of}
 use Rattle.fast.proofs.InParts.{of-own-region, said-served, served-bytes, unserved-bytes}
 use Rattle.fast.proofs.copy_in.miravoly_sound_copy_in.Goals as goal

@@ -12,7 +12,6 @@ use Rattle.calls.specs.Tests.{size_test, align_test}
 use Rattle.calls.specs.Write.{fill_bytes}
 use Rattle.calls.proofs.Answering.{stopped-first}
 use Rattle.calls.proofs.Testing.{Lent}
-use borrow.Author.Rules.{rules}
 use Rattle.fast.specs.Parts.{parts_of}
 use Rattle.fast.proofs.InParts.{as_read, lent-refused, lent-passed, refused-given, refused-bytes}
 use Rattle.fast.proofs.fill.miravoly_fast_fill.Goals as goal

@@ -4,7 +4,6 @@ use Rattle.rounding.proofs.Tests.{taken_false, left-true}
 use Rattle.arena.specs.declared.Arena.{Arena}
 use Rattle.arena.specs.Sound.{sound_of}
 use Rattle.calls.proofs.Freeing.{free-state}
-use borrow.Author.Rules.{rules}
 use Rattle.fast.specs.Parts.{parts_of}
 use Rattle.fast.proofs.InParts.{as_read, refused-plain}
 use Rattle.fast.proofs.free.miravoly_fast_free.Goals as goal
@@ -16,7 +15,7 @@ returns-then-not-is_sound c =
     c.is_sound.ensures ∙ ap sound_of (as_read s.head.now s.starts.now s.sizes.now s.pointers.now c.head_of.ensures) in
     let s = c.args in
     let both =
-      refused-plain _ (free-state lent_record s.offset s.size s.align (taken_false tested c.if-not-is_sound.true)) c.said_refused.ensures in
+    refused-plain _ (free-state lent_record s.offset s.size s.align (taken_false tested c.if-not-is_sound.true)) c.said_refused.ensures in
     record { value = both.0; pointers_after = both.1 }
 
 pub miravoly_sound_free-requires : goal.miravoly_sound_free-requires

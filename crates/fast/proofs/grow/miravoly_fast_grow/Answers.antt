@@ -10,7 +10,6 @@ use Rattle.calls.specs.Bytes.{carried}
 use Rattle.calls.specs.Grow.{grow_in, grow_of, grow_bytes}
 use Rattle.calls.proofs.Answering.{stopped-first}
 use Rattle.calls.proofs.Testing.{Lent}
-use borrow.Author.Rules.{rules}
 use Rattle.fast.specs.Parts.{parts_of}
 use Rattle.fast.proofs.InParts.{as_read, lent-refused, lent-passed, refused-given, refused-bytes}
 use Rattle.fast.proofs.grow.miravoly_fast_grow.Goals as goal

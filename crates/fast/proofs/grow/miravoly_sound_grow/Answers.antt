@@ -1,10 +1,9 @@
 -- `fast::grow::miravoly_sound_grow` meets its contract: the inner form, and its change made in place. Assumes nothing.
-use mathlib.Core.Path.{◌≡◌, sym, ap, ◌∙◌}
+use mathlib.Core.Path.{sym, ap, ◌∙◌}
 use lib.ListN.{length}
 use Rattle.arena.specs.declared.Arena.{Arena}
 use Rattle.arena.specs.declared.Head.{Head}
 use Rattle.calls.specs.Grow.{grow_of, grow_bytes}
-use borrow.Author.Rules.{rules}
 use Rattle.fast.proofs.InParts.{as_read, sound-as-read, placed-in-parts}
 use Rattle.fast.proofs.grow.miravoly_sound_grow.Goals as goal
 

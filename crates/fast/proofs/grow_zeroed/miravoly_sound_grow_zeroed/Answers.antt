@@ -8,7 +8,6 @@ use lib.ListN.{length, replicate}
 use Rattle.calls.specs.Bytes.{written, carried}
 use Rattle.calls.specs.Grow.{grow_bytes, grow_zeroed_bytes}
 use Rattle.calls.proofs.Changing.{BothInside, grow-served}
-use borrow.Author.Rules.{rules}
 use Rattle.fast.proofs.InParts.{said-served, served-bytes, unserved-bytes}
 use Rattle.fast.proofs.grow_zeroed.miravoly_sound_grow_zeroed.Goals as goal
 
@@ -27,8 +26,8 @@ returns-then-said-ne0 c =
       value = c.miravoly_sound_grow-said.ensures.value;
       pointers_after = c.miravoly_sound_grow-said.ensures.pointers_after;
       region_after = c.miravoly_sound_grow-said.ensures.region_after
-            ∙ sym (unserved-bytes _ (moved s.region.now s.offset s.old) s.region.now c.miravoly_sound_grow-said.ensures.value c.if-said-ne0.true)
-            ∙ unserved-bytes _ (cleared s.region.now s.offset s.old s.new) s.region.now c.miravoly_sound_grow-said.ensures.value c.if-said-ne0.true;
+          ∙ sym (unserved-bytes _ (moved s.region.now s.offset s.old) s.region.now c.miravoly_sound_grow-said.ensures.value c.if-said-ne0.true)
+          ∙ unserved-bytes _ (cleared s.region.now s.offset s.old s.new) s.region.now c.miravoly_sound_grow-said.ensures.value c.if-said-ne0.true;
     }
 
 pub overflow_add-said : goal.overflow_add-said
@@ -54,7 +53,7 @@ returns c =
       value = c.miravoly_sound_grow-said.ensures.value;
       pointers_after = c.miravoly_sound_grow-said.ensures.pointers_after;
       region_after = c.fill.ensures
-            ∙ ap (λ (bytes : List ℕ). written bytes (c.miravoly_sound_grow-said.result.offset + s.old) (replicate (s.new - s.old) 0))
-            (c.miravoly_sound_grow-said.ensures.region_after ∙ sym (served-bytes _ (moved s.region.now s.offset s.old) s.region.now c.miravoly_sound_grow-said.ensures.value left))
-            ∙ served-bytes _ (cleared s.region.now s.offset s.old s.new) s.region.now c.miravoly_sound_grow-said.ensures.value left;
+          ∙ ap (λ (bytes : List ℕ). written bytes (c.miravoly_sound_grow-said.result.offset + s.old) (replicate (s.new - s.old) 0))
+          (c.miravoly_sound_grow-said.ensures.region_after ∙ sym (served-bytes _ (moved s.region.now s.offset s.old) s.region.now c.miravoly_sound_grow-said.ensures.value left))
+          ∙ served-bytes _ (cleared s.region.now s.offset s.old s.new) s.region.now c.miravoly_sound_grow-said.ensures.value left;
     }

@@ -1,14 +1,12 @@
 -- `fast::lend::miravoly_fast_lend` meets its contract: an unsound record or another region's length is refused, and the rest is the sound record's. Assumes nothing.
 use Prim.Native.Nat.{ℕ}
-use mathlib.Core.Path.{◌≡◌, sym, ap, ◌∙◌}
+use mathlib.Core.Path.{sym, ap, ◌∙◌}
 use lib.ListN.{length}
-use Rattle.arena.specs.declared.Answer.{Answer}
 use Rattle.arena.specs.declared.Arena.{Arena}
 use Rattle.calls.specs.Inner.{lent_tests, block_tests}
 use Rattle.calls.specs.Write.{lend_answer, lend_of}
 use Rattle.calls.proofs.Testing.{Lent, refused-before}
 use Rattle.host.specs.Said.{said_part}
-use borrow.Author.Rules.{rules}
 use Rattle.fast.specs.Parts.{parts_of}
 use Rattle.fast.proofs.InParts.{as_read, lent-refused, lent-passed}
 use Rattle.fast.proofs.lend.miravoly_fast_lend.Goals as goal

@@ -1,12 +1,9 @@
 -- `fast::lend::miravoly_sound_lend` meets its contract: of a sound record that is lent its own region only the block's tests are left. Assumes nothing.
-use mathlib.Core.List.{[], ◌∷◌}
-use mathlib.Core.Path.{◌≡◌, refl, sym, ap, ◌∙◌}
+use mathlib.Core.Path.{sym, ap, ◌∙◌}
 use Rattle.arena.specs.declared.Answer.{Answer}
 use Rattle.arena.specs.declared.Arena.{Arena}
 use Rattle.calls.specs.Inner.{block_tests, first_of}
-use Rattle.calls.specs.Write.{lend_of}
 use Rattle.host.specs.Said.{said_part}
-use borrow.Author.Rules.{rules}
 use Rattle.fast.specs.Parts.{parts_of}
 use Rattle.fast.proofs.InParts.{as_read, sound-as-read, lend-of-own-region}
 use Rattle.fast.proofs.lend.miravoly_sound_lend.Goals as goal

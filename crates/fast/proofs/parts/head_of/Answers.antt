@@ -1,6 +1,5 @@
 -- `fast::parts::head_of` meets its contract. Assumes nothing.
 use mathlib.Core.Path.{refl}
-use borrow.Author.Rules.{rules}
 use Rattle.fast.specs.Parts.{head_of}
 use Rattle.fast.proofs.parts.head_of.Goals as goal
 

@@ -1,12 +1,9 @@
 -- `fast::parts::make_in_parts` meets its contract: the change is made in the parts, and the head that it answers is stored. Assumes nothing.
-use mathlib.Core.Path.{◌≡◌, sym, ap, ◌∙◌}
-use Prim.Native.Nat.{ℕ}
-use Rattle.arena.specs.declared.Arena.{Arena}
+use mathlib.Core.Path.{ap, ◌∙◌}
 use Rattle.arena.specs.declared.Head.{Head}
 use Rattle.arena.specs.Inner.{changed_by}
 use Rattle.arena.specs.Record.{record_of}
 use Rattle.fast.proofs.InParts.{as_read, sound-as-read}
-use borrow.Author.Rules.{rules}
 use Rattle.fast.proofs.parts.make_in_parts.Goals as goal
 
 pub make-h-requires : goal.make-h-requires

@@ -5,7 +5,6 @@ use Rattle.arena.specs.declared.Arena.{Arena}
 use Rattle.arena.specs.Sound.{sound_of}
 use Rattle.arena.specs.Creation.{reset_of}
 use Rattle.arena.proofs.Refusing.{unsound-refused}
-use borrow.Author.Rules.{rules}
 use Rattle.fast.specs.Parts.{parts_of}
 use Rattle.fast.proofs.InParts.{as_read, refused-plain}
 use Rattle.fast.proofs.reset.miravoly_fast_reset.Goals as goal
@@ -18,7 +17,7 @@ returns-then-not-is_sound c =
     c.is_sound.ensures ∙ ap sound_of (as_read s.head.now s.starts.now s.sizes.now s.pointers.now c.head_of.ensures) in
     let s = c.args in
     let both =
-      refused-plain _ (unsound-refused lent_record _ (taken_false tested c.if-not-is_sound.true)) c.said_refused.ensures in
+    refused-plain _ (unsound-refused lent_record _ (taken_false tested c.if-not-is_sound.true)) c.said_refused.ensures in
     record { value = both.0; pointers_after = both.1 }
 
 pub miravoly_sound_reset-requires : goal.miravoly_sound_reset-requires

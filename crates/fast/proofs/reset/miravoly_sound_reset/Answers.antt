@@ -5,7 +5,6 @@ use Rattle.arena.specs.Creation.{reset_of}
 use Rattle.arena.specs.Inner.{changed_by}
 use Rattle.arena.proofs.Refusing.{sound-done}
 use Rattle.host.specs.Said.{said_of}
-use borrow.Author.Rules.{rules}
 use Rattle.fast.proofs.reset.miravoly_sound_reset.Goals as goal
 
 pub returns : goal.returns

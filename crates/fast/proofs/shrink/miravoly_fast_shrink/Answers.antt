@@ -10,7 +10,6 @@ use Rattle.calls.specs.Bytes.{carried}
 use Rattle.calls.specs.Shrink.{shrink_in, shrink_of, shrink_bytes}
 use Rattle.calls.proofs.Answering.{stopped-first}
 use Rattle.calls.proofs.Testing.{Lent}
-use borrow.Author.Rules.{rules}
 use Rattle.fast.specs.Parts.{parts_of}
 use Rattle.fast.proofs.InParts.{as_read, lent-refused, lent-passed, refused-given, refused-bytes}
 use Rattle.fast.proofs.shrink.miravoly_fast_shrink.Goals as goal

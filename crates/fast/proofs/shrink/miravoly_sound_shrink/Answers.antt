@@ -1,10 +1,9 @@
 -- `fast::shrink::miravoly_sound_shrink` meets its contract: the inner form, and its change made in place. Assumes nothing.
-use mathlib.Core.Path.{◌≡◌, sym, ap, ◌∙◌}
+use mathlib.Core.Path.{sym, ap, ◌∙◌}
 use lib.ListN.{length}
 use Rattle.arena.specs.declared.Arena.{Arena}
 use Rattle.arena.specs.declared.Head.{Head}
 use Rattle.calls.specs.Shrink.{shrink_of, shrink_bytes}
-use borrow.Author.Rules.{rules}
 use Rattle.fast.proofs.InParts.{as_read, sound-as-read, placed-in-parts}
 use Rattle.fast.proofs.shrink.miravoly_sound_shrink.Goals as goal
 

@@ -2,7 +2,7 @@
 -- Assumes nothing.
 use Prim.Native.Nat.{ℕ}
 use mathlib.Core.List.{[], ◌∷◌}
-use mathlib.Core.Path.{◌≡◌, sym, ap, ◌∙◌}
+use mathlib.Core.Path.{sym, ap, ◌∙◌}
 use lib.ListN.{length}
 use Rattle.arena.specs.declared.Arena.{Arena}
 use Rattle.arena.specs.Record.{held_of}
@@ -15,7 +15,6 @@ use Rattle.calls.specs.Token.{token_for, token_given, with_token_of}
 use Rattle.calls.proofs.Answering.{stopped-first}
 use Rattle.calls.proofs.Testing.{Lent}
 use Rattle.host.specs.Said.{said_token}
-use borrow.Author.Rules.{rules}
 use Rattle.fast.specs.Parts.{parts_of}
 use Rattle.fast.proofs.InParts.{as_read, lent-refused, lent-passed}
 use Rattle.fast.proofs.token.miravoly_fast_allocate_with_token.Goals as goal

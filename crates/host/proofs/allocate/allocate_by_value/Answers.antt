@@ -1,6 +1,5 @@
 -- `host::allocate::allocate_by_value` meets its contract: allocate, with its answer in numbers. Assumes nothing.
 use mathlib.Core.Path.{◌∙◌, ap}
-use borrow.Author.Rules.{rules}
 use Rattle.host.specs.Said.{stored_given}
 use Rattle.host.proofs.allocate.allocate_by_value.Goals as goal
 

@@ -1,6 +1,5 @@
 -- `host::answers::said_given` meets its contract: each case of the answer is a clause of the definition. Assumes nothing.
 use mathlib.Core.Path.{sym, ap, ◌∙◌}
-use borrow.Author.Rules.{rules}
 use Rattle.host.specs.Said.{said_given}
 use Rattle.host.proofs.answers.said_given.Goals as goal
 

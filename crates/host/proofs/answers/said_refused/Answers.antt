@@ -1,6 +1,5 @@
 -- `host::answers::said_refused` meets its contract: its number, and no offset. Assumes nothing.
 use mathlib.Core.Path.{ap}
-use borrow.Author.Rules.{rules}
 use Rattle.host.specs.Said.{said}
 use Rattle.host.proofs.answers.said_refused.Goals as goal
 

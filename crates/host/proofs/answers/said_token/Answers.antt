@@ -1,6 +1,5 @@
 -- `host::answers::said_token` meets its contract: the answer is said, and the token's numbers stay. Assumes nothing.
 use mathlib.Core.Path.{ap}
-use borrow.Author.Rules.{rules}
 use Rattle.host.specs.declared.Said.{Said}
 use Rattle.host.proofs.answers.said_token.Goals as goal
 

@@ -1,6 +1,5 @@
 -- `host::answers::stored` meets its contract: the answer is said, and the record stays. Assumes nothing.
 use mathlib.Core.Path.{ap}
-use borrow.Author.Rules.{rules}
 use Rattle.arena.specs.declared.Arena.{Arena}
 use Rattle.host.specs.declared.Said.{Said}
 use Rattle.host.specs.declared.Stored.{Stored}

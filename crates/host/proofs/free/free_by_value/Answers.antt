@@ -1,6 +1,5 @@
 -- `host::free::free_by_value` meets its contract: free, with its answer in numbers. Assumes nothing.
 use mathlib.Core.Path.{◌∙◌, ap}
-use borrow.Author.Rules.{rules}
 use Rattle.host.specs.Said.{stored_of}
 use Rattle.host.proofs.free.free_by_value.Goals as goal
 

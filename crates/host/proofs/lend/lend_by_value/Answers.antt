@@ -1,7 +1,6 @@
 -- `host::lend::lend_by_value` meets its contract: the answer of lending, with the block that is named. Assumes nothing.
 use mathlib.Core.Path.{◌∙◌, ap}
 use Rattle.arena.specs.declared.Answer.{Answer}
-use borrow.Author.Rules.{rules}
 use Rattle.host.specs.Said.{said_part}
 use Rattle.host.proofs.lend.lend_by_value.Goals as goal
 

@@ -1,11 +1,10 @@
 -- `host::shrink::shrink_by_value` meets its contract: shrink, with its answer in numbers. Assumes nothing.
 use mathlib.Core.Path.{◌∙◌, ap}
-use borrow.Author.Rules.{rules}
 use Rattle.host.specs.Said.{stored_given}
 use Rattle.host.proofs.shrink.shrink_by_value.Goals as goal
 
 pub returns : goal.returns
 returns c = record {
-      value = c.stored_given.ensures ∙ ap stored_given c.shrink.ensures.value;
-      region_after = c.shrink.ensures.region_after;
-    }
+  value = c.stored_given.ensures ∙ ap stored_given c.shrink.ensures.value;
+  region_after = c.shrink.ensures.region_after;
+}

@@ -1,6 +1,5 @@
 -- `host::tokens::cancel_by_value` meets its contract: cancel, with its answer in numbers. Assumes nothing.
 use mathlib.Core.Path.{◌∙◌, ap}
-use borrow.Author.Rules.{rules}
 use Rattle.host.specs.Said.{stored_of}
 use Rattle.host.proofs.tokens.cancel_by_value.Goals as goal
 

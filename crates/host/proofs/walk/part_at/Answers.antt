@@ -5,7 +5,6 @@ use native.Mathlib.Omega.{arith}
 use mathlib.Core.Path.{◌≡◌, sym, ◌∙◌, ap, subst}
 use lib.ListN.{length}
 use Rattle.calls.specs.Bytes.{part, stands_at}
-use borrow.Author.Rules.{rules}
 use Rattle.host.specs.declared.SaidStep.{SaidStep}
 use Rattle.host.specs.Walk.{step_part}
 use Rattle.host.proofs.Walking.{step-inside}

@@ -6,7 +6,6 @@ use Rattle.arena.specs.declared.Answer.TheVariants.{Done}
 use Rattle.arena.specs.declared.Chunk.{Chunk}
 use Rattle.arena.specs.Record.{end_of}
 use Rattle.arena.proofs.Soundness.{ChunkSound, sound-open}
-use borrow.Author.Rules.{rules}
 use Rattle.host.specs.Walk.{walk_answer, step}
 use Rattle.host.proofs.Walking.{walked, few, chunk-sound, step-none, step-some, step-refused}
 use Rattle.host.proofs.walk.step_in.Goals as goal

@@ -1,7 +1,6 @@
 -- `host::walk::walk_answer` meets its contract: each way out is the first test that applies, or none. Assumes nothing.
 use mathlib.Core.Path.{sym, ◌∙◌, ap}
 use mathlib.Core.List.{[], ◌∷◌}
-use borrow.Author.Rules.{rules}
 use borrow.Author.Tests.{eq-eqb, ne_eqb}
 use Rattle.rounding.proofs.Tests.{taken_false, left-true, true-not, false-not}
 use Rattle.arena.specs.Sound.{state_test}

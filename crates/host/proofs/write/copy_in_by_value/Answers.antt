@@ -1,11 +1,10 @@
 -- `host::write::copy_in_by_value` meets its contract: copy in, with its answer in numbers. Assumes nothing.
 use mathlib.Core.Path.{◌∙◌, ap}
-use borrow.Author.Rules.{rules}
 use Rattle.host.specs.Said.{stored_given}
 use Rattle.host.proofs.write.copy_in_by_value.Goals as goal
 
 pub returns : goal.returns
 returns c = record {
-      value = c.stored_given.ensures ∙ ap stored_given c.copy_in.ensures.value;
-      region_after = c.copy_in.ensures.region_after;
-    }
+  value = c.stored_given.ensures ∙ ap stored_given c.copy_in.ensures.value;
+  region_after = c.copy_in.ensures.region_after;
+}

@@ -1,8 +1,5 @@
 -- `relay::feeding::feed_on` meets its contract, by what was written and taken. Assumes nothing.
-use Prim.Native.Nat.{◌-◌}
 use native.Mathlib.Omega.{arith}
-use borrow.Author.Rules.{rules}
-use Rattle.calls.proofs.Writing.{length_part}
 use Rattle.relay.proofs.Steps.{lines-come, more-to-feed, more-to-read, too_much}
 use Rattle.relay.proofs.feeding.feed_on.Goals as goal
 

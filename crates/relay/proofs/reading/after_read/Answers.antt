@@ -1,11 +1,10 @@
 -- `relay::reading::after_read` meets its contract, by what the answer says. Assumes nothing.
-use mathlib.Core.Path.{◌≡◌, refl, sym, ap, ◌∙◌}
+use mathlib.Core.Path.{refl, sym, ap, ◌∙◌}
 use lib.ListN.{drop}
-use borrow.Author.Rules.{rules}
 use Rattle.relay.specs.declared.Next.TheVariants.{ReadFailed}
 use Rattle.relay.specs.declared.said.Said.{Said}
 use Rattle.relay.specs.View.{asking}
-use Rattle.relay.specs.Event.{said_of, read_answer}
+use Rattle.relay.specs.Event.{read_answer}
 use Rattle.relay.proofs.Signs.{heard}
 use Rattle.relay.proofs.Steps.{goes_by, read-failed-goes, read-interrupted-goes, read-gave-goes}
 use Rattle.relay.proofs.reading.after_read.Goals as goal

@@ -1,5 +1,4 @@
 -- `relay::reading::end` meets its contract: the ending stands at the front of the output. Assumes nothing.
-use borrow.Author.Rules.{rules}
 use Rattle.relay.proofs.Steps.{read-ended-goes}
 use Rattle.relay.proofs.reading.end.Goals as goal
 

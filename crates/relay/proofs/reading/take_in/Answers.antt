@@ -1,6 +1,5 @@
 -- `relay::reading::take_in` meets its contract: by whether the bytes fit. Assumes nothing.
 use Prim.Native.Nat.{◌-◌}
-use borrow.Author.Rules.{rules}
 use borrow.Author.Tests.{lt-ltb, le-ltb}
 use Rattle.relay.specs.View.{filled_by}
 use Rattle.relay.proofs.reading.take_in.Goals as goal

@@ -1,6 +1,6 @@
 -- `relay::said::said_by` meets its contract, by the answer's sign. Assumes nothing.
 use mathlib.Core.Path.{sym, ap, ◌∙◌}
-use lib.IntN.{ℤ, nat_abs}
+use lib.IntN.{nat_abs}
 use mir.Syntax.{w64}
 use mir.ValLaws.{to_z-of_z}
 use Rattle.relay.proofs.Signs.{sign, magnitude, interrupted-said, failed-said, not_negative, nothing_said, moved-said}

@@ -1,9 +1,8 @@
 -- `relay::writing::after_write` meets its contract, by what the answer says. Assumes nothing.
-use mathlib.Core.Path.{◌≡◌, refl, sym, ap, ◌∙◌}
-use borrow.Author.Rules.{rules}
+use mathlib.Core.Path.{refl, sym, ap, ◌∙◌}
 use Rattle.relay.specs.declared.Next.TheVariants.{WriteFailed}
 use Rattle.relay.specs.View.{asking}
-use Rattle.relay.specs.Event.{said_of, write_answer}
+use Rattle.relay.specs.Event.{write_answer}
 use Rattle.relay.proofs.Signs.{heard}
 use Rattle.relay.proofs.Steps.{goes_by, write-failed-goes, write-interrupted-goes, write-took-goes}
 use Rattle.relay.proofs.writing.after_write.Goals as goal

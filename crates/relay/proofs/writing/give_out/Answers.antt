@@ -1,6 +1,5 @@
 -- `relay::writing::give_out` meets its contract: by whether text is left, and whether the input has ended. Assumes nothing.
 use Prim.Native.Nat.{◌-◌}
-use borrow.Author.Rules.{rules}
 use borrow.Author.Tests.{lt-ltb, le-ltb}
 use Rattle.relay.specs.View.{written_by}
 use Rattle.relay.proofs.writing.give_out.Goals as goal

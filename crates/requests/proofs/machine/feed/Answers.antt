@@ -2,7 +2,6 @@
 use mathlib.Core.Bool.{true, false}
 use mathlib.Core.Path.{◌≡◌, refl, sym, ap, ◌∙◌}
 use borrow.Author.Rules.{rules}
-use borrow.Author.Tests.{not-true, not-false}
 use lib.ListN.{length}
 use Rattle.requests.specs.Feed.{step_at, ready, step_of, stage_said}
 use Rattle.requests.proofs.Feeds.{came-still, ready-open, came-known}

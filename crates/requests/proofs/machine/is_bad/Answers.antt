@@ -3,7 +3,6 @@ use mathlib.Core.Path.{sym, ap}
 use Rattle.requests.specs.declared.Front.{Front}
 use Rattle.requests.specs.Inner.{front_said}
 use Rattle.requests.specs.Feed.{is_bad}
-use borrow.Author.Rules.{rules}
 use Rattle.requests.proofs.machine.is_bad.Goals as goal
 
 pub returns-in-Nothing : goal.returns-in-Nothing

@@ -1,6 +1,5 @@
 -- `requests::machine::is_ready` meets its contract: each test settles one part. Assumes nothing.
 use Prim.Native.Nat.{◌-◌}
-use borrow.Author.Rules.{rules}
 use borrow.Author.Tests.{le-leb, lt-leb}
 use lib.ListN.{length}
 use Rattle.requests.specs.Header.{most_region}

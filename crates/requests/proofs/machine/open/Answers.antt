@@ -1,7 +1,6 @@
 -- `requests::machine::open` meets its contract: by the tests on the window and the output, and by the header. Assumes nothing.
 use mathlib.Core.Option.{none}
 use mathlib.Core.Path.{refl, sym, ap, ◌∙◌}
-use borrow.Author.Rules.{rules}
 use lib.ListN.{length}
 use Rattle.requests.specs.Machine.{headed}
 use Rattle.requests.specs.Inner.{header_said}

@@ -1,5 +1,4 @@
 -- `requests::machine::put_ending` meets its contract, stage by stage. Assumes nothing.
-use borrow.Author.Rules.{rules}
 use Rattle.requests.specs.Machine.{ending_text}
 use Rattle.requests.specs.Feed.{stage_said}
 use Rattle.requests.proofs.Feeds.{put-none}

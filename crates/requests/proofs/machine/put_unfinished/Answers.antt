@@ -1,6 +1,5 @@
 -- `requests::machine::put_unfinished` meets its contract, by what stands at the front. Assumes nothing.
 use mathlib.Core.Path.{◌≡◌, sym, ap, ◌∙◌}
-use borrow.Author.Rules.{rules}
 use Rattle.requests.specs.Front.{front_of}
 use Rattle.requests.specs.Inner.{front_said}
 use Rattle.requests.specs.Text.{ending_line}

@@ -1,6 +1,5 @@
 -- `requests::machine::run_lent` meets its contract: the region's part is put back before the rest of the lent bytes. Assumes nothing.
 use mathlib.Core.Path.{sym, ◌∙◌}
-use borrow.Author.Rules.{rules}
 use lib.Seq.{length-take-le}
 use Rattle.requests.proofs.Feeds.{lent-through, through-inside, through-fits}
 use Rattle.requests.proofs.machine.run_lent.Goals as goal
@@ -11,9 +10,9 @@ slice_bounds-run_window-end-2 c =
 
 pub run_window-requires : goal.run_window-requires
 run_window-requires c = record {
-      arena_value = (c.requires.0, length-take-le c.args.arena.head.region c.args.lent.now c.requires.1);
-      window_bound = c.requires.2;
-    }
+  arena_value = (c.requires.0, length-take-le c.args.arena.head.region c.args.lent.now c.requires.1);
+  window_bound = c.requires.2;
+}
 
 pub returns : goal.returns
 returns c =

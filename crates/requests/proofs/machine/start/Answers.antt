@@ -1,6 +1,5 @@
 -- `requests::machine::start` meets its contract. Assumes nothing.
 use mathlib.Core.Path.{ap}
-use borrow.Author.Rules.{rules}
 use Rattle.arena.specs.declared.Arena.{Arena}
 use Rattle.requests.specs.declared.Stage.TheVariants.{Heading}
 use Rattle.requests.specs.declared.machine.State.{State}

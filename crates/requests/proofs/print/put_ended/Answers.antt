@@ -2,7 +2,6 @@
 use native.Mathlib.Omega.{arith}
 use Rattle.requests.proofs.Decimal.{decimal-length}
 use Rattle.requests.proofs.Putting.{put_then}
-use borrow.Author.Rules.{rules}
 use Rattle.requests.proofs.print.put_ended.Goals as goal
 
 pub put_text-requires : goal.put_text-requires

@@ -4,7 +4,6 @@ use Rattle.requests.specs.Text.{line_of}
 use Rattle.requests.specs.Inner.{reply_said}
 use Rattle.requests.proofs.Decimal.{decimal-length}
 use Rattle.requests.proofs.Putting.{put_then}
-use borrow.Author.Rules.{rules}
 use Rattle.requests.proofs.print.put_line.Goals as goal
 
 pub put_ended-requires : goal.put_ended-requires

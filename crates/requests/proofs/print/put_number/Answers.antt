@@ -2,7 +2,6 @@
 use native.Mathlib.Omega.{arith}
 use mathlib.Core.Path.{◌∙◌}
 use Rattle.requests.proofs.Decimal.{digits_decimal, fewest-bound}
-use borrow.Author.Rules.{rules}
 use Rattle.requests.proofs.print.put_number.Goals as goal
 
 pub put_text-requires : goal.put_text-requires

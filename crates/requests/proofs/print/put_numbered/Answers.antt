@@ -1,6 +1,5 @@
 -- `requests::print::put_numbered` meets its contract: the two texts join. Assumes nothing.
 use native.Mathlib.Omega.{arith}
-use borrow.Author.Rules.{rules}
 use Rattle.requests.proofs.Decimal.{decimal-length}
 use Rattle.requests.proofs.Putting.{put_then}
 use Rattle.requests.proofs.print.put_numbered.Goals as goal

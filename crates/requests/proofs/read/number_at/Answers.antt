@@ -1,6 +1,5 @@
 -- `requests::read::number_at` meets its contract: each byte adds itself below those before it. Assumes nothing.
 use Rattle.requests.specs.Bytes.{number32}
-use borrow.Author.Rules.{rules}
 use Rattle.requests.proofs.read.number_at.Goals as goal
 
 pub returns : goal.returns

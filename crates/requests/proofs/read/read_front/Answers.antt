@@ -5,7 +5,6 @@ use mathlib.Core.Path.{◌≡◌, sym, ◌∙◌}
 use Rattle.requests.specs.Bytes.{byte_at, then_byte}
 use Rattle.requests.specs.Inner.{front_said}
 use Rattle.requests.proofs.Settling.{nothing-front, one-front, short-front, record-front}
-use borrow.Author.Rules.{rules}
 use Rattle.requests.proofs.read.read_front.Goals as goal
 
 pub returns-then-bytes-eq0 : goal.returns-then-bytes-eq0

@@ -2,7 +2,6 @@
 use mathlib.Core.Path.{sym, ◌∙◌}
 use Rattle.requests.specs.Inner.{front_said}
 use Rattle.requests.proofs.Codes.{front-empty, front-unsuited}
-use borrow.Author.Rules.{rules}
 use Rattle.requests.proofs.read.read_record.Goals as goal
 
 pub returns-then-body-eq0 : goal.returns-then-body-eq0

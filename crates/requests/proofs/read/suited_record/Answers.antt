@@ -3,7 +3,6 @@
 use Prim.Native.Nat.{ℕ}
 use native.Mathlib.Omega.{arith}
 use mathlib.Core.Path.{◌≡◌, sym, ap, ◌∙◌}
-use borrow.Author.Rules.{rules}
 use lib.ListN.{length}
 use Rattle.requests.specs.Bytes.{byte_at}
 use Rattle.requests.specs.Request.{forms, request_by}

@@ -2,7 +2,6 @@
 use mathlib.Core.Path.{refl}
 use Rattle.requests.specs.Run.{answer_reply}
 use Rattle.requests.specs.Inner.{reply_said}
-use borrow.Author.Rules.{rules}
 use Rattle.requests.proofs.run.did.Goals as goal
 
 pub returns-in-Done : goal.returns-in-Done

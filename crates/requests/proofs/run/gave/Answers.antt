@@ -2,7 +2,6 @@
 use mathlib.Core.Path.{refl}
 use Rattle.requests.specs.Run.{given_reply}
 use Rattle.requests.specs.Inner.{reply_said}
-use borrow.Author.Rules.{rules}
 use Rattle.requests.proofs.run.gave.Goals as goal
 
 pub returns-in-At : goal.returns-in-At

@@ -9,7 +9,6 @@ use Rattle.calls.specs.Inner.{ended_of}
 use Rattle.requests.specs.Run.{run_in}
 use Rattle.requests.specs.Inner.{request_said}
 use Rattle.requests.proofs.Running.{gave-said, did-said, token-said}
-use borrow.Author.Rules.{rules}
 use Rattle.requests.proofs.run.run.Goals as goal
 
 pub returns-in-Allocate : goal.returns-in-Allocate

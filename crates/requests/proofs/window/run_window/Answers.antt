@@ -4,10 +4,7 @@ use Prim.Native.Nat.{ℕ, ◌+◌, ◌-◌, ◌≤◌}
 use native.Mathlib.Nat.{le_of_eq}
 use native.Mathlib.Omega.{arith}
 use mathlib.Core.Bool.{false}
-use mathlib.Core.List.{[], ◌∷◌}
-use mathlib.Core.Logic.{inl, inr}
 use mathlib.Core.Path.{◌≡◌, refl, sym, ap, ◌∙◌}
-use borrow.Author.Rules.{rules}
 use lib.ListN.{length, drop, length-drop}
 use lib.Seq.{take_all}
 use Rattle.arena.specs.declared.Arena.{Arena}
@@ -20,7 +17,7 @@ use Rattle.requests.specs.Inner.{request_said, front_said, reply_said, ran_said}
 use Rattle.requests.specs.Run.{ran_to, run_in}
 use Rattle.requests.proofs.Settling.{whole-size}
 use Rattle.requests.specs.Window.{memory_of}
-use Rattle.requests.proofs.Stepping.{Reached, is_whole, stops-by-front, stops-by-room, reached-start, reached-step, reached-end}
+use Rattle.requests.proofs.Stepping.{is_whole, stops-by-front, stops-by-room, reached-start, reached-step, reached-end}
 use Rattle.requests.proofs.window.run_window.Goals as goal
 
 pub loop-out-init : goal.loop-out-init
@@ -90,8 +87,7 @@ loop-out-preserved c =
     sym (ap front_of (take_all (length window - taken) (drop taken window) (le_of_eq (length-drop taken window))))
     ∙ sym c.read_front.ensures
     ∙ ap front_said c.in-Whole.is in
-    let after : ran_to (reply_said c.run-ran.result.reply) (record_of c.make-head.result c.make-head.new.starts c.make-head.new.sizes c.make-head.new.pointers) c.run-ran.new.region ≡ run_in (request_said c.in-Whole.request) own c.loop-out.region = ap (λ (b : Arena). ran_to (reply_said c.run-ran.result.reply) b c.run-ran.new.region) c.make-head.ensures ∙ c.run-ran.ensures in
-    (
+    let after : ran_to (reply_said c.run-ran.result.reply) (record_of c.make-head.result c.make-head.new.starts c.make-head.new.sizes c.make-head.new.pointers) c.run-ran.new.region ≡ run_in (request_said c.in-Whole.request) own c.loop-out.region = ap (λ (b : Arena). ran_to (reply_said c.run-ran.result.reply) b c.run-ran.new.region) c.make-head.ensures ∙ c.run-ran.ensures in (
       reached-step c.args.number (memory_of c.args.arena c.args.region.now) c.args.window.now c.args.out.now own c.loop-out.next
           c.loop-out.taken c.loop-out.written c.loop-out.region c.loop-out.out c.loop-out.invariant.0 c.in-Whole.size (request_said c.in-Whole.request) (reply_said c.run-ran.result.reply)
           (record_of c.make-head.result c.make-head.new.starts c.make-head.new.sizes c.make-head.new.pointers) c.run-ran.new.region c.put_line-written.new.out c.put_line-written.result found

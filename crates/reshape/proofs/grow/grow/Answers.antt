@@ -11,7 +11,6 @@ use Rattle.calls.specs.Bytes.{carried, after_given}
 use Rattle.calls.specs.Grow.{grow_of, grow_bytes}
 use Rattle.calls.proofs.Answering.{bytes-shown}
 use Rattle.calls.proofs.Testing.{tests-refuse, tests-pass, lent-passes}
-use borrow.Author.Rules.{rules}
 use Rattle.reshape.proofs.Stopping.{grow-stopped}
 use Rattle.reshape.proofs.grow.grow.Goals as goal
 
@@ -44,6 +43,6 @@ make-head-requires c =
 
 pub returns : goal.returns
 returns c = record {
-      value = (λ i. record { answer = c.grow_placed-placed.result.answer; arena = c.make-head.ensures i }) ∙ c.grow_placed-placed.ensures.placed_by;
-      region_after = c.grow_placed-placed.ensures.region_after;
-    }
+  value = (λ i. record { answer = c.grow_placed-placed.result.answer; arena = c.make-head.ensures i }) ∙ c.grow_placed-placed.ensures.placed_by;
+  region_after = c.grow_placed-placed.ensures.region_after;
+}

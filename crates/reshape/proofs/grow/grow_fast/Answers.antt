@@ -9,7 +9,6 @@ use Rattle.calls.proofs.Cases.{fast-room, full-no-room}
 use Rattle.calls.proofs.Growing.{grown-moved, grows-in-place}
 use Rattle.calls.proofs.Placing.{placed-moved}
 use Rattle.calls.proofs.Last.{last-grows}
-use borrow.Author.Rules.{rules}
 use Rattle.reshape.proofs.grow.grow_fast.Goals as goal
 
 pub returns-then-new-old : goal.returns-then-new-old

@@ -20,7 +20,6 @@ use Rattle.calls.proofs.Changing.{lent-own, grow-tested, grow-served}
 use Rattle.calls.proofs.Passing.{grow-passes}
 use Rattle.calls.proofs.Placing.{placed-refused}
 use Rattle.calls.proofs.Testing.{passed-before, tests-refuse, tests-pass}
-use borrow.Author.Rules.{rules}
 use Rattle.reshape.proofs.grow.grow_in_full.Goals as goal
 
 pub change_answer-requires : goal.change_answer-requires

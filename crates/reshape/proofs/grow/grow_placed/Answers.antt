@@ -14,7 +14,6 @@ use Rattle.calls.specs.Grow.{grow_of, grow_bytes}
 use Rattle.calls.specs.Inner.{placed_of}
 use Rattle.calls.proofs.Answering.{bytes-shown}
 use Rattle.calls.proofs.Changing.{grow-served}
-use borrow.Author.Rules.{rules}
 use Rattle.reshape.proofs.grow.grow_placed.Goals as goal
 
 pub grow_fast-requires : goal.grow_fast-requires

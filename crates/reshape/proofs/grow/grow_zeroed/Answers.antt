@@ -11,11 +11,10 @@ use Rattle.arena.proofs.Soundness.{sound-open}
 use Rattle.calls.specs.declared.Allocation.{Allocation}
 use Rattle.calls.specs.Allocate.{given}
 use Rattle.calls.specs.Bytes.{written, carried, after_given}
-use Rattle.calls.specs.Grow.{grow_of, grow_bytes, grow_zeroed_bytes}
+use Rattle.calls.specs.Grow.{grow_bytes, grow_zeroed_bytes}
 use Rattle.calls.proofs.Answering.{bytes-shown}
 use Rattle.calls.proofs.Changing.{BothInside, grow-served}
 use Rattle.calls.proofs.Testing.{tests-refuse, tests-pass, lent-passes}
-use borrow.Author.Rules.{rules}
 use Rattle.reshape.proofs.Stopping.{grow-stopped}
 use Rattle.reshape.proofs.grow.grow_zeroed.Goals as goal
 

@@ -7,7 +7,6 @@ use Rattle.calls.proofs.Cases.{fast-room, fast-full}
 use Rattle.calls.proofs.Growing.{grown-lacks, grown-moved, grows-in-place, grows-afresh}
 use Rattle.calls.proofs.Placing.{placed-moved}
 use Rattle.calls.proofs.Requests.{allocate-works}
-use borrow.Author.Rules.{rules}
 use Rattle.reshape.proofs.grow.grown_block.Goals as goal
 
 pub allocate_in_full-requires : goal.allocate_in_full-requires

@@ -14,7 +14,6 @@ use Rattle.calls.specs.Inner.{lent_tests}
 use Rattle.calls.proofs.Answering.{stopped-first, bytes-shown}
 use Rattle.calls.proofs.Resizing.{resize_rest}
 use Rattle.calls.proofs.Testing.{tests-refuse, tests-pass, lent-passes}
-use borrow.Author.Rules.{rules}
 use Rattle.reshape.proofs.resize.resize.Goals as goal
 
 pub returns-in-Refused : goal.returns-in-Refused
@@ -47,6 +46,6 @@ make-head-requires c =
 
 pub returns : goal.returns
 returns c = record {
-      value = (λ i. record { answer = c.resize_placed-placed.result.answer; arena = c.make-head.ensures i }) ∙ c.resize_placed-placed.ensures.placed_by;
-      region_after = c.resize_placed-placed.ensures.region_after;
-    }
+  value = (λ i. record { answer = c.resize_placed-placed.result.answer; arena = c.make-head.ensures i }) ∙ c.resize_placed-placed.ensures.placed_by;
+  region_after = c.resize_placed-placed.ensures.region_after;
+}

@@ -21,7 +21,6 @@ use Rattle.calls.proofs.Passing.{resize-passes, resize-accepted}
 use Rattle.calls.proofs.Resizing.{resize_rest, as-change, resize-nothing, nothing-carried, resize-served}
 use Rattle.calls.proofs.Placing.{placed-refused}
 use Rattle.calls.proofs.Testing.{passed-before, tests-refuse, tests-pass, block_inside}
-use borrow.Author.Rules.{rules}
 use Rattle.reshape.proofs.resize.resize_placed.Goals as goal
 
 pub returns-then-old-eq0 : goal.returns-then-old-eq0

@@ -5,7 +5,6 @@ use Rattle.arena.specs.declared.Arena.{Arena}
 use Rattle.arena.specs.Record.{record_of, held_of}
 use Rattle.calls.specs.Allocate.{given}
 use Rattle.calls.proofs.Needing.{resize-down, resize-up}
-use borrow.Author.Rules.{rules}
 use Rattle.reshape.proofs.resize.resized_block.Goals as goal
 
 pub returns-then-new-old : goal.returns-then-new-old

@@ -1,6 +1,6 @@
 -- `reshape::shrink::shrink_fast` meets its contract: where it answers a pointer, no test of a shrink refuses and the block goes up in place.
 -- Assumes nothing.
-use Prim.Native.Nat.{ℕ, ◌+◌, ◌-◌, ◌≤◌}
+use Prim.Native.Nat.{ℕ, ◌-◌, ◌≤◌}
 use native.Mathlib.Omega.{arith}
 use mathlib.Core.Path.{◌≡◌, refl, sym, ◌∙◌, ap, subst}
 use Rattle.rounding.specs.Round.{round_down, one_bit}
@@ -20,7 +20,6 @@ use Rattle.calls.proofs.Last.{last-shrinks}
 use Rattle.calls.proofs.Placing.{placed-moved}
 use Rattle.calls.proofs.Shrinking.{goes-up, shrinks-in-place}
 use Rattle.calls.proofs.Testing.{block_inside}
-use borrow.Author.Rules.{rules}
 use Rattle.reshape.proofs.shrink.shrink_fast.Goals as goal
 
 pub returns-then-old-new : goal.returns-then-old-new

@@ -20,7 +20,6 @@ use Rattle.calls.proofs.Changing.{lent-own, shrink-tested, shrink-served}
 use Rattle.calls.proofs.Passing.{shrink-passes}
 use Rattle.calls.proofs.Placing.{placed-refused}
 use Rattle.calls.proofs.Testing.{passed-before, tests-refuse, tests-pass}
-use borrow.Author.Rules.{rules}
 use Rattle.reshape.proofs.shrink.shrink_in_full.Goals as goal
 
 pub change_answer-requires : goal.change_answer-requires

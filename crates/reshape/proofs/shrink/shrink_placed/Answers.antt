@@ -14,7 +14,6 @@ use Rattle.calls.specs.Shrink.{shrink_of, shrink_bytes}
 use Rattle.calls.specs.Inner.{placed_of}
 use Rattle.calls.proofs.Answering.{bytes-shown}
 use Rattle.calls.proofs.Changing.{shrink-served}
-use borrow.Author.Rules.{rules}
 use Rattle.reshape.proofs.shrink.shrink_placed.Goals as goal
 
 pub shrink_fast-requires : goal.shrink_fast-requires

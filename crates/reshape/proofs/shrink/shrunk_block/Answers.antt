@@ -14,7 +14,6 @@ use Rattle.calls.specs.Shrink.{given_up, shrunk_in_place}
 use Rattle.calls.proofs.Placing.{placed-stays}
 use Rattle.calls.proofs.Requests.{allocate-works}
 use Rattle.calls.proofs.Shrinking.{shrinks-in-place, shrinks-aligned, shrinks-afresh}
-use borrow.Author.Rules.{rules}
 use Rattle.reshape.proofs.shrink.shrunk_block.Goals as goal
 
 pub down_to_power-d-requires : goal.down_to_power-d-requires
@@ -23,12 +22,11 @@ down_to_power-d-requires c =
     ap one_bit c.larger.ensures ∙ power-one-bit (power-max align (sound-open _ c.requires.request.sound).head.minimum-power)
 
 pub shrunk_in_place-requires : goal.shrunk_in_place-requires
-shrunk_in_place-requires c =
-    (
-      c.requires.request.sound,
-      c.requires.inside,
-      omega (arith, c.down_to_power-d.ensures, down-at-most (c.args.old - c.args.new) c.larger.result),
-    )
+shrunk_in_place-requires c = (
+  c.requires.request.sound,
+  c.requires.inside,
+  omega (arith, c.down_to_power-d.ensures, down-at-most (c.args.old - c.args.new) c.larger.result),
+)
 
 pub returns-then-new_align-old_align : goal.returns-then-new_align-old_align
 returns-then-new_align-old_align c =

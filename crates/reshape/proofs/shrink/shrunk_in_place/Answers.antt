@@ -5,7 +5,6 @@ use Rattle.arena.specs.Record.{record_of, held_of}
 use Rattle.arena.proofs.Soundness.{sound-open}
 use Rattle.calls.proofs.Placing.{placed-stays, placed-moved}
 use Rattle.calls.proofs.Shrinking.{stays-elsewhere, stays-near, goes-up}
-use borrow.Author.Rules.{rules}
 use Rattle.reshape.proofs.shrink.shrunk_in_place.Goals as goal
 
 pub is_at_pointer-requires : goal.is_at_pointer-requires

@@ -10,7 +10,6 @@ use Rattle.calls.specs.declared.Allocation.{Allocation}
 use Rattle.calls.specs.Token.{token_for, with_token_of}
 use Rattle.calls.specs.Inner.{with_token}
 use Rattle.calls.proofs.Requests.{allocate-state, allocate-region}
-use borrow.Author.Rules.{rules}
 use Rattle.takeback.proofs.tokens.allocate_with_token.Goals as goal
 
 pub returns-then-not-is_sound : goal.returns-then-not-is_sound

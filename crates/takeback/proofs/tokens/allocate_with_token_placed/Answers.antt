@@ -8,7 +8,6 @@ use Rattle.calls.specs.declared.Token.{Token}
 use Rattle.calls.specs.declared.TokenAllocation.{TokenAllocation}
 use Rattle.calls.specs.Token.{with_token_of}
 use Rattle.calls.specs.Inner.{with_token}
-use borrow.Author.Rules.{rules}
 use Rattle.takeback.proofs.tokens.allocate_with_token_placed.Goals as goal
 
 pub token_for-before-requires : goal.token_for-before-requires

@@ -4,7 +4,6 @@ use mathlib.Core.Path.{◌≡◌, sym, ◌∙◌}
 use Rattle.arena.specs.Sound.{sound_of}
 use Rattle.rounding.proofs.Tests.{taken_false, left-true}
 use Rattle.calls.proofs.Cancelling.{cancel-state}
-use borrow.Author.Rules.{rules}
 use Rattle.takeback.proofs.tokens.cancel.Goals as goal
 
 pub returns-then-not-is_sound : goal.returns-then-not-is_sound

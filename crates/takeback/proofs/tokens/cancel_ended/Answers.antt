@@ -4,7 +4,6 @@ use Rattle.arena.specs.declared.Answer.TheVariants.{Done}
 use Rattle.arena.specs.Record.{record_of}
 use Rattle.calls.proofs.Cancelling.{cancel-token, cancel-works}
 use Rattle.calls.proofs.Placing.{ended-refused}
-use borrow.Author.Rules.{rules}
 use Rattle.takeback.proofs.tokens.cancel_ended.Goals as goal
 
 pub returns-then-is_bad_token : goal.returns-then-is_bad_token

@@ -13,7 +13,6 @@ use Rattle.arena.proofs.View.{length-chunks}
 use Rattle.calls.specs.Token.{off_current, bad_token}
 use Rattle.calls.proofs.Reading.{read-newest, read-end}
 use Rattle.calls.proofs.Cancelling.{count-above, count-below, count-equal, off-elsewhere, off-below, off-above, off-minimum}
-use borrow.Author.Rules.{rules}
 use Rattle.takeback.proofs.tokens.is_bad_token.Goals as goal
 
 pub returns-then-count-token : goal.returns-then-count-token

@@ -13,7 +13,6 @@ use Rattle.arena.proofs.View.{length-chunks, holding-held}
 use Rattle.calls.specs.Token.{rewound}
 use Rattle.calls.proofs.Reading.{read-newest, read-end}
 use Rattle.calls.proofs.Cancelling.{rewound-none, rewound-elsewhere, rewound-recorded, rewound-end}
-use borrow.Author.Rules.{rules}
 use Rattle.takeback.proofs.tokens.rewind.Goals as goal
 
 pub returns-then-count-eq0 : goal.returns-then-count-eq0

@@ -6,7 +6,6 @@ use lib.ListN.{get_or}
 use Rattle.arena.specs.Record.{chunks_of}
 use Rattle.arena.proofs.View.{length-chunks, chunks-newest}
 use Rattle.calls.specs.Token.{token_of, token_for}
-use borrow.Author.Rules.{rules}
 use Rattle.takeback.proofs.tokens.token_for.Goals as goal
 
 pub returns-then-count-eq0 : goal.returns-then-count-eq0

@@ -2,7 +2,6 @@
 use mathlib.Core.Path.{sym, ap}
 use Rattle.calls.specs.declared.Given.{Given}
 use Rattle.calls.specs.Token.{token_given}
-use borrow.Author.Rules.{rules}
 use Rattle.takeback.proofs.tokens.token_given.Goals as goal
 
 pub returns-in_default : goal.returns-in_default
