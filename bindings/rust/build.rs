@@ -1,4 +1,4 @@
-// Says where libhost.a and libfast.a are: in the folder that MIRAVOLY_ARCHIVE names, else where `rt staticlib` writes them.
+// Says where libhost.a and libfast.a are: in the folder that MIRAVOLY_ARCHIVE names, else where `tools/build host fast` writes them.
 use std::env;
 use std::path::PathBuf;
 use std::process;
@@ -15,7 +15,7 @@ fn main() {
         println!("cargo:rerun-if-changed={}", archive.display());
         if !archive.is_file() {
             eprintln!(
-                "{} is missing: `rt staticlib {name}` writes it",
+                "{} is missing: `tools/build {name}` writes it",
                 archive.display()
             );
             missing = true;

@@ -25,7 +25,7 @@
 //! * Regions and sizes go up to [`LARGEST`] bytes, alignments are powers of two up to [`LARGEST_ALIGN`].
 //! * An alignment is one of the offset. For aligned addresses lend a region that begins at a multiple of 4,096.
 //!
-//! The archives `libhost.a` and `libfast.a` have the proved calls, for x86-64: `rt staticlib host` and `rt staticlib fast` write
+//! The archives `libhost.a` and `libfast.a` have the proved calls, for x86-64: `tools/build host fast` writes
 //! them, and the build looks for them in the folder that `MIRAVOLY_ARCHIVE` names.
 #![deny(unsafe_code)]
 #![warn(missing_debug_implementations)]
