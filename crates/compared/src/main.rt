@@ -2,6 +2,7 @@
 #![tactic(auto)]
 
 ghost use Rattle.std.specs.Prelude.{◌<◌};
+ghost use Rattle.std.specs.Io.{ReadsAtMost};
 
 mod digest;
 mod tape;
@@ -10,6 +11,8 @@ use crate::digest::write_digest;
 use crate::tape::{lesser, number, within, write_pattern};
 use arena::{Answer, Arena, Outcome, Refusal};
 use calls::{Allocation, Given, Token, TokenAllocation};
+use std::io;
+use std::io::{ErrorKind, Read, Write};
 
 const RECORD: usize = 24;
 
@@ -255,8 +258,32 @@ fn run_piece(
     }
 }
 
+const BUFFER: usize = 65536;
+
 // The digests of a piece of 43,680 bytes, 1,820 records, fit in the output.
 const PIECE: usize = 43680;
+
+// Reads until the part is full or the input ends. Answers how many bytes it put at the front.
+fn read_full<R: Read>(reader: &mut R, part: &mut [u8]) -> io::Result<usize>
+    ensures { ReadsAtMost result part.new }
+{
+    let mut done = 0;
+    for _ in 0..u64::MAX {
+        if done == part.len() {
+            break;
+        }
+        match reader.read(&mut part[done..]) {
+            Ok(0) => break,
+            Ok(n) => done += n,
+            Err(e) => {
+                if e.kind() != ErrorKind::Interrupted {
+                    return Err(e);
+                }
+            }
+        }
+    }
+    Ok(done)
+}
 
 #[derive(Clone, Copy)]
 struct Reached {
@@ -265,26 +292,26 @@ struct Reached {
 }
 
 // Reads a piece, runs it and writes its digests. Open says that there may be more to read.
-fn read_and_run(
+fn read_and_run<R: Read, W: Write>(
     before: Turn,
     space: &mut [u8],
     source: &mut [u8],
     weights: &[u64],
     input: &mut [u8],
     output: &mut [u8],
-) -> Reached {
+    reader: &mut R,
+    writer: &mut W,
+) -> io::Result<Reached> {
     let most = within(PIECE, input);
-    let n = io::read_full(libc::STDIN_FILENO, &mut input[..most]);
-    let got = within(n, input);
+    let got = read_full(reader, &mut input[..most])?;
     let did = run_piece(before, space, source, weights, &input[..got], output);
     let put = within(did.put, output);
-    let wrote = io::write_all(libc::STDOUT_FILENO, &output[..put]);
-    let open = if 0 < n { wrote } else { false };
+    writer.write_all(&output[..put])?;
     let turn = did.turn;
-    Reached {
+    Ok(Reached {
         turn: turn,
-        open: open,
-    }
+        open: 0 < got,
+    })
 }
 
 fn turns_left(left: u32, open: bool) -> u32
@@ -295,29 +322,40 @@ fn turns_left(left: u32, open: bool) -> u32
 }
 
 // To the end of the input, or to four thousand million pieces.
-fn run_all(
+fn run_all<R: Read, W: Write>(
     space: &mut [u8],
     source: &mut [u8],
     weights: &[u64],
     input: &mut [u8],
     output: &mut [u8],
-) {
+    reader: &mut R,
+    writer: &mut W,
+) -> io::Result<()> {
     let none = within(0, space);
     let mut now = create(&mut space[..none], 1, 0, 0);
     let mut left: u32 = 4000000000;
     while 0 < left {
-        let did = read_and_run(now, space, source, weights, input, output);
+        let did = read_and_run(now, space, source, weights, input, output, reader, writer)?;
         now = did.turn;
         left = turns_left(left, did.open);
     }
+    Ok(())
 }
 
-fn main() {
+fn main(rt: HostRuntime) -> io::Result<()> {
     let mut weights = [0u64; 65536];
     digest::set_weights(&mut weights);
-    let mut space = io::large_buffer();
-    let mut source = io::large_buffer();
-    let mut input = io::large_buffer();
-    let mut output = io::large_buffer();
-    run_all(&mut space, &mut source, &weights, &mut input, &mut output);
+    let mut space = [0u8; BUFFER];
+    let mut source = [0u8; BUFFER];
+    let mut input = [0u8; BUFFER];
+    let mut output = [0u8; BUFFER];
+    run_all(
+        &mut space,
+        &mut source,
+        &weights,
+        &mut input,
+        &mut output,
+        &mut rt.stdin(),
+        &mut rt.stdout(),
+    )
 }

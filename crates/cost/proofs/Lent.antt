@@ -1,4 +1,4 @@
--- A sound record that is lent its own region, of n bytes, is one after a call too. Assumes nothing.
+-- A sound record that is lent its own region, of n bytes, is one after a call too.
 use Prim.Native.Nat.{ℕ}
 use mathlib.Core.Bool.{true}
 use mathlib.Core.Path.{◌≡◌, sym, ap, ◌∙◌}

@@ -11,6 +11,8 @@ mod inner;
 
 use arena::sound::is_sound;
 use arena::{Arena, Head};
+use std::env::Args;
+use std::{env, io};
 
 const REGION: usize = 8192;
 // As many turns as the list has numbers for.
@@ -33,10 +35,12 @@ fn number(text: &[u8]) -> usize
     n
 }
 
-fn argument(i: usize) -> usize {
-    let mut text = [0u8; 16];
-    let n = os::arg(i, &mut text);
-    number(&text[..n])
+// The next argument; 0 where there is none.
+fn argument(arguments: &mut Args) -> usize {
+    match arguments.next() {
+        Some(text) => number(text.as_bytes()),
+        None => 0,
+    }
 }
 
 fn chunk_size(current: bool) -> usize
@@ -113,23 +117,24 @@ fn served(what: usize, a: Arena, region: &mut [u8], numbers: &[usize; 1024], tur
     inner::served(what, a, region, numbers, turns)
 }
 
-fn main() {
-    let what = argument(1);
-    let chunks = argument(2);
-    let turns = argument(3);
-    let size = argument(4);
-    let align = argument(5);
-    let new = argument(6);
+fn main(rt: HostRuntime) -> io::Result<()> {
+    let mut arguments = env::args(&rt)?;
+    let _program = arguments.next();
+    let what = argument(&mut arguments);
+    let chunks = argument(&mut arguments);
+    let turns = argument(&mut arguments);
+    let size = argument(&mut arguments);
+    let align = argument(&mut arguments);
+    let new = argument(&mut arguments);
     if 32 < chunks {
-        return;
+        return Ok(());
     }
     if MOST_TURNS < turns {
-        return;
+        return Ok(());
     }
     let mut region = [0u8; REGION];
     let mut numbers = [0; 1024];
     list(&mut numbers, size, align, new);
     let found = served(what, holding(chunks), &mut region, &numbers, turns);
-    io::print_decimal(libc::STDOUT_FILENO, found as u64);
-    io::write_all(libc::STDOUT_FILENO, b"\n");
+    println!(rt; "{found}")
 }

@@ -3,6 +3,8 @@ use arena::creation::emptied;
 use arena::{Arena, Head};
 use requests::Stage;
 use requests::machine::{State, feed, finish};
+use std::io;
+use std::io::Write;
 use trial::row::{with_chunk, with_number};
 use trial::say::text;
 use trial::table::{Numbers, within};
@@ -37,28 +39,33 @@ fn window(size: usize) -> [u8; 25] {
     w
 }
 
-fn show_ended(state: State, rest: &[u8]) {
-    let mut out = io::buffer();
-    let put = finish(state, rest, &mut out);
-    let k = within(put, &out);
-    text(&out[..k]);
+fn show_ended<W: Write>(out: &mut W, state: State, rest: &[u8]) -> io::Result<()> {
+    let mut lines = [0u8; 4096];
+    let put = finish(state, rest, &mut lines);
+    let k = within(put, &lines);
+    text(out, &lines[..k])
 }
 
 // The lines of these three from a number on, and those of an end inside the record after them. Where the numbers of the window's bytes don't fit, none of
 // it is taken.
-pub fn show_requests(lent: &mut [u8], number: usize, size: usize) {
+pub fn show_requests<W: Write>(
+    out: &mut W,
+    lent: &mut [u8],
+    number: usize,
+    size: usize,
+) -> io::Result<()> {
     let arena = one_chunk();
     let state = State {
         stage: Stage::Running,
         number: number,
         arena: arena,
     };
-    let mut out = io::buffer();
+    let mut lines = [0u8; 4096];
     let requests = window(size);
-    let did = feed(state, lent, &requests, &mut out);
-    let k = within(did.written, &out);
-    text(&out[..k]);
-    show_ended(did.state, b"\x00");
+    let did = feed(state, lent, &requests, &mut lines);
+    let k = within(did.written, &lines);
+    text(out, &lines[..k])?;
+    show_ended(out, did.state, b"\x00")
 }
 
 // The chunks one after the other, from 0 on.
@@ -75,12 +82,12 @@ fn holding(n: Numbers) -> Arena {
 }
 
 // The last line alone, of chunks with these n.
-pub fn show_held(n: Numbers) {
+pub fn show_held<W: Write>(out: &mut W, n: Numbers) -> io::Result<()> {
     let arena = holding(n);
     let state = State {
         stage: Stage::Stopped,
         number: 1,
         arena: arena,
     };
-    show_ended(state, b"");
+    show_ended(out, state, b"")
 }

@@ -2,57 +2,63 @@
 use crate::steps::{allocate, copy_in, create, free, lend, limit, no_limit, record, reset};
 use crate::store::{Store, show_bytes};
 use arena::Arena;
+use std::io;
+use std::io::Write;
 
 // A chunk from 0 to 448 whose pointer is 432.
-fn at_the_pointer(s: Store) {
-    lend(s, 432, 16, 1, b'x');
-    lend(s, 431, 1, 1, b'x');
-    lend(s, 431, 17, 1, b'x');
-    let marked = lend(s, 432, 1, 1, b'x');
-    show_bytes(marked, 430, 450);
-    lend(s, 0, 0, 1, b'x');
-    lend(s, 431, 0, 1, b'x');
-    lend(s, 18446744073709551615, 1, 1, b'x');
-    lend(s, 18446744073709551615, 0, 1, b'x');
+fn at_the_pointer<W: Write>(out: &mut W, s: Store) -> io::Result<()> {
+    lend(out, s, 432, 16, 1, b'x')?;
+    lend(out, s, 431, 1, 1, b'x')?;
+    lend(out, s, 431, 17, 1, b'x')?;
+    let marked = lend(out, s, 432, 1, 1, b'x')?;
+    show_bytes(out, marked, 430, 450)?;
+    lend(out, s, 0, 0, 1, b'x')?;
+    lend(out, s, 431, 0, 1, b'x')?;
+    lend(out, s, 18446744073709551615, 1, 1, b'x')?;
+    lend(out, s, 18446744073709551615, 0, 1, b'x')?;
+    Ok(())
 }
 
-fn at_the_end(s: Store) {
-    let marked = lend(s, 447, 1, 1, b'x');
-    show_bytes(marked, 430, 450);
-    lend(s, 432, 17, 1, b'x');
-    lend(s, 448, 1, 1, b'x');
-    lend(s, 448, 0, 1, b'x');
-    lend(s, 449, 0, 1, b'x');
-    lend(s, 432, 16, 16, b'x');
-    lend(s, 432, 16, 32, b'x');
-    lend(s, 0, 0, 4096, b'x');
+fn at_the_end<W: Write>(out: &mut W, s: Store) -> io::Result<()> {
+    let marked = lend(out, s, 447, 1, 1, b'x')?;
+    show_bytes(out, marked, 430, 450)?;
+    lend(out, s, 432, 17, 1, b'x')?;
+    lend(out, s, 448, 1, 1, b'x')?;
+    lend(out, s, 448, 0, 1, b'x')?;
+    lend(out, s, 449, 0, 1, b'x')?;
+    lend(out, s, 432, 16, 16, b'x')?;
+    lend(out, s, 432, 16, 32, b'x')?;
+    lend(out, s, 0, 0, 4096, b'x')?;
+    Ok(())
 }
 
 // A second chunk from 496 to 1456 whose pointer is 956.
-fn in_two_chunks(one: Store) {
-    let two = allocate(one, 500, 1);
-    record(two);
-    lend(two, 432, 16, 1, b'x');
-    lend(two, 448, 0, 1, b'x');
-    lend(two, 449, 0, 1, b'x');
-    lend(two, 495, 0, 1, b'x');
-    lend(two, 496, 0, 1, b'x');
-    lend(two, 432, 600, 1, b'x');
-    lend(two, 955, 1, 1, b'x');
-    lend(two, 956, 500, 1, b'x');
-    lend(two, 956, 501, 1, b'x');
-    lend(two, 1456, 0, 1, b'x');
-    lend(two, 1457, 0, 1, b'x');
+fn in_two_chunks<W: Write>(out: &mut W, one: Store) -> io::Result<()> {
+    let two = allocate(out, one, 500, 1)?;
+    record(out, two)?;
+    lend(out, two, 432, 16, 1, b'x')?;
+    lend(out, two, 448, 0, 1, b'x')?;
+    lend(out, two, 449, 0, 1, b'x')?;
+    lend(out, two, 495, 0, 1, b'x')?;
+    lend(out, two, 496, 0, 1, b'x')?;
+    lend(out, two, 432, 600, 1, b'x')?;
+    lend(out, two, 955, 1, 1, b'x')?;
+    lend(out, two, 956, 500, 1, b'x')?;
+    lend(out, two, 956, 501, 1, b'x')?;
+    lend(out, two, 1456, 0, 1, b'x')?;
+    lend(out, two, 1457, 0, 1, b'x')?;
+    Ok(())
 }
 
-fn frees_at_the_edges(s: Store) {
-    free(s, 432, 16, 1);
-    free(s, 432, 1, 1);
-    free(s, 432, 0, 1);
-    free(s, 447, 1, 1);
-    free(s, 448, 0, 1);
-    free(s, 0, 0, 1);
-    free(s, 448, 1, 1);
+fn frees_at_the_edges<W: Write>(out: &mut W, s: Store) -> io::Result<()> {
+    free(out, s, 432, 16, 1)?;
+    free(out, s, 432, 1, 1)?;
+    free(out, s, 432, 0, 1)?;
+    free(out, s, 447, 1, 1)?;
+    free(out, s, 448, 0, 1)?;
+    free(out, s, 0, 0, 1)?;
+    free(out, s, 448, 1, 1)?;
+    Ok(())
 }
 
 // One chunk of 448 more, all given out: the limit leaves room for it and for no larger one.
@@ -79,22 +85,26 @@ fn with_31_chunks(new: Store) -> Store {
 }
 
 // The region has room for one more chunk of 448 after the 32nd.
-fn a_full_table() {
-    let nearly = limit(with_31_chunks(create(16384, 1, 0)), 14336);
-    let full = no_limit(allocate(nearly, 448, 1));
-    allocate(full, 1, 1);
-    allocate(full, 0, 1);
-    let freed = free(full, 15376, 448, 1);
-    allocate(freed, 448, 1);
-    let one = reset(full);
-    record(allocate(one, 449, 1));
+fn a_full_table<W: Write>(out: &mut W) -> io::Result<()> {
+    let made = create(out, 16384, 1, 0)?;
+    let nearly = limit(out, with_31_chunks(made), 14336)?;
+    let got = allocate(out, nearly, 448, 1)?;
+    let full = no_limit(out, got)?;
+    allocate(out, full, 1, 1)?;
+    allocate(out, full, 0, 1)?;
+    let freed = free(out, full, 15376, 448, 1)?;
+    allocate(out, freed, 448, 1)?;
+    let one = reset(out, full)?;
+    let got = allocate(out, one, 449, 1)?;
+    record(out, got)
 }
 
-pub fn run() {
-    let s = copy_in(create(16384, 1, 0), b"abcdefghijklmnop", 1);
-    at_the_pointer(s);
-    at_the_end(s);
-    in_two_chunks(s);
-    frees_at_the_edges(s);
-    a_full_table();
+pub fn run<W: Write>(out: &mut W) -> io::Result<()> {
+    let made = create(out, 16384, 1, 0)?;
+    let s = copy_in(out, made, b"abcdefghijklmnop", 1)?;
+    at_the_pointer(out, s)?;
+    at_the_end(out, s)?;
+    in_two_chunks(out, s)?;
+    frees_at_the_edges(out, s)?;
+    a_full_table(out)
 }

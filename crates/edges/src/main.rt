@@ -12,12 +12,18 @@ mod say;
 mod steps;
 mod store;
 
-fn main() {
-    creating::run();
-    refusing::run();
-    blocks::run();
-    limits::run();
-    moving::run();
-    rewinding::run();
-    planting::run(steps::create(16384, 1, 448));
+use std::io;
+use std::io::{BufWriter, Write};
+
+fn main(rt: HostRuntime) -> io::Result<()> {
+    let mut out = BufWriter::new(rt.alloc(), rt.stdout())?;
+    creating::run(&mut out)?;
+    refusing::run(&mut out)?;
+    blocks::run(&mut out)?;
+    limits::run(&mut out)?;
+    moving::run(&mut out)?;
+    rewinding::run(&mut out)?;
+    let new = steps::create(&mut out, 16384, 1, 448)?;
+    planting::run(&mut out, new)?;
+    out.flush()
 }

@@ -1,29 +1,31 @@
 // How a line is written.
 use arena::{Answer, Arena};
 use calls::Given;
+use std::io;
+use std::io::Write;
 use trial::say::{number, refusal_number, text};
 
 // A zero byte, which no text of this program has, is shown as 0.
-pub fn show_byte(b: u8) {
+pub fn show_byte<W: Write>(out: &mut W, b: u8) -> io::Result<()> {
     let one = [b];
     if b == 0 {
-        text(b"0");
+        text(out, b"0")
     } else {
-        text(&one);
+        text(out, &one)
     }
 }
 
-pub fn show_given(g: Given) {
+pub fn show_given<W: Write>(out: &mut W, g: Given) -> io::Result<()> {
     match g {
-        Given::At(offset) => number(b": at ", offset),
-        Given::Refused(r) => number(b": refused ", refusal_number(r)),
+        Given::At(offset) => number(out, b": at ", offset),
+        Given::Refused(r) => number(out, b": refused ", refusal_number(r)),
     }
 }
 
-pub fn show_answer(g: Answer) {
+pub fn show_answer<W: Write>(out: &mut W, g: Answer) -> io::Result<()> {
     match g {
-        Answer::Done => text(b": done"),
-        Answer::Refused(r) => number(b": refused ", refusal_number(r)),
+        Answer::Done => text(out, b": done"),
+        Answer::Refused(r) => number(out, b": refused ", refusal_number(r)),
     }
 }
 
@@ -41,51 +43,50 @@ pub fn was_done(g: Answer) -> bool {
     }
 }
 
-fn show_chunk(start: usize, size: usize, pointer: usize) {
-    number(b", ", size);
-    number(b" at ", start);
-    number(b" pointer ", pointer);
+fn show_chunk<W: Write>(out: &mut W, start: usize, size: usize, pointer: usize) -> io::Result<()> {
+    number(out, b", ", size)?;
+    number(out, b" at ", start)?;
+    number(out, b" pointer ", pointer)
 }
 
 // No limit has the number 0.
-fn show_limit(limited: usize, limit: usize) {
+fn show_limit<W: Write>(out: &mut W, limited: usize, limit: usize) -> io::Result<()> {
     if limited == 1 {
-        number(b", limit ", limit);
-        return;
+        return number(out, b", limit ", limit);
     }
-    text(b", no limit");
+    text(out, b", no limit")?;
     if limit != 0 {
-        number(b" BUT ", limit);
+        number(out, b" BUT ", limit)?;
     }
+    Ok(())
 }
 
 // The whole record: its numbers, and the held chunks in the order taken.
-pub fn show_record(a: Arena) {
-    number(b"; region ", a.head.region);
-    number(b", minimum ", a.head.minimum);
-    show_limit(a.head.limited, a.head.limit);
+pub fn show_record<W: Write>(out: &mut W, a: Arena) -> io::Result<()> {
+    number(out, b"; region ", a.head.region)?;
+    number(out, b", minimum ", a.head.minimum)?;
+    show_limit(out, a.head.limited, a.head.limit)?;
     if a.head.count == 0 {
-        text(b", no chunk");
+        text(out, b", no chunk")?;
     }
     for i in 0..32 {
         if i < a.head.count {
-            show_chunk(a.starts[i], a.sizes[i], a.pointers[i]);
+            show_chunk(out, a.starts[i], a.sizes[i], a.pointers[i])?;
         }
     }
-    text(b"\n");
+    text(out, b"\n")
 }
 
 // How many chunks are held, and the current one's pointer.
-pub fn show_current(a: Arena) {
+pub fn show_current<W: Write>(out: &mut W, a: Arena) -> io::Result<()> {
     let count = a.head.count;
-    number(b"; chunks ", count);
+    number(out, b"; chunks ", count)?;
     if count == 0 {
-        text(b"\n");
-        return;
+        return text(out, b"\n");
     }
     let last = count - 1;
     if last < 32 {
-        number(b", pointer ", a.pointers[last]);
+        number(out, b", pointer ", a.pointers[last])?;
     }
-    text(b"\n");
+    text(out, b"\n")
 }

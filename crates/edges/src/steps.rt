@@ -6,35 +6,55 @@ use crate::store::{
 };
 use arena::{Arena, Outcome};
 use calls::{Allocation, Given, Token};
+use std::io;
+use std::io::Write;
 use trial::say::{number, text};
 
 // The region's bytes are full stops at first.
-pub fn create(region: usize, minimum: usize, capacity: usize) -> Store {
-    number(b"create ", region);
-    number(b" minimum ", minimum);
-    number(b" capacity ", capacity);
+pub fn create<W: Write>(
+    out: &mut W,
+    region: usize,
+    minimum: usize,
+    capacity: usize,
+) -> io::Result<Store> {
+    number(out, b"create ", region)?;
+    number(out, b" minimum ", minimum)?;
+    number(out, b" capacity ", capacity)?;
     let got = Arena::with_min_align_and_capacity(region, minimum, capacity);
     let answer = got.answer;
     let a = got.arena;
-    show_answer(answer);
-    show_record(a);
-    Store {
+    show_answer(out, answer)?;
+    show_record(out, a)?;
+    Ok(Store {
         arena: a,
         lent: region,
         plant: NOTHING,
         bytes: [46; 16384],
-    }
+    })
 }
 
 // A served call may write as many bytes from its block's offset on.
-fn show_written(answer: Given, before: [u8; 16384], after: [u8; 16384], size: usize) {
+fn show_written<W: Write>(
+    out: &mut W,
+    answer: Given,
+    before: [u8; 16384],
+    after: [u8; 16384],
+    size: usize,
+) -> io::Result<()> {
     if let Given::At(offset) = answer {
         let end = std::num::wrapping_add_usize(offset, size);
-        show_others(same_outside(&before, &after, offset, end));
+        show_others(out, same_outside(&before, &after, offset, end))?;
     }
+    Ok(())
 }
 
-fn given(s: Store, got: Allocation, bytes: [u8; 16384], size: usize) -> Store {
+fn given<W: Write>(
+    out: &mut W,
+    s: Store,
+    got: Allocation,
+    bytes: [u8; 16384],
+    size: usize,
+) -> io::Result<Store> {
     let answer = got.answer;
     let a = planted_record(s, got.arena);
     let after = Store {
@@ -43,14 +63,14 @@ fn given(s: Store, got: Allocation, bytes: [u8; 16384], size: usize) -> Store {
         plant: s.plant,
         bytes: bytes,
     };
-    show_given(answer);
+    show_given(out, answer)?;
     let before = s.bytes;
-    show_written(answer, before, bytes, size);
-    show_after(was_given(answer), s, after);
-    after
+    show_written(out, answer, before, bytes, size)?;
+    show_after(out, was_given(answer), s, after)?;
+    Ok(after)
 }
 
-fn done(s: Store, got: Outcome) -> Store {
+fn done<W: Write>(out: &mut W, s: Store, got: Outcome) -> io::Result<Store> {
     let answer = got.answer;
     let a = planted_record(s, got.arena);
     let b = s.bytes;
@@ -60,126 +80,155 @@ fn done(s: Store, got: Outcome) -> Store {
         plant: s.plant,
         bytes: b,
     };
-    show_answer(answer);
-    show_after(was_done(answer), s, after);
-    after
+    show_answer(out, answer)?;
+    show_after(out, was_done(answer), s, after)?;
+    Ok(after)
 }
 
-pub fn allocate(s: Store, size: usize, align: usize) -> Store {
-    number(b"allocate ", size);
-    number(b" align ", align);
+pub fn allocate<W: Write>(out: &mut W, s: Store, size: usize, align: usize) -> io::Result<Store> {
+    number(out, b"allocate ", size)?;
+    number(out, b" align ", align)?;
     let a = s.arena;
     let mut b = [46u8; 16384];
     let n = put_bytes(&mut b, &s.bytes, s.lent);
     let got = calls::allocate::allocate(a, &b[..n], size, align);
     plant(&mut b, s.plant);
-    given(s, got, b, 0)
+    given(out, s, got, b, 0)
 }
 
-pub fn copy_in(s: Store, source: &[u8], align: usize) -> Store {
-    text(b"copy in ");
-    text(source);
-    number(b" align ", align);
+pub fn copy_in<W: Write>(out: &mut W, s: Store, source: &[u8], align: usize) -> io::Result<Store> {
+    text(out, b"copy in ")?;
+    text(out, source)?;
+    number(out, b" align ", align)?;
     let a = s.arena;
     let mut b = [46u8; 16384];
     let n = put_bytes(&mut b, &s.bytes, s.lent);
     let got = calls::write::copy_in(a, &mut b[..n], source, align);
     plant(&mut b, s.plant);
-    given(s, got, b, source.len())
+    given(out, s, got, b, source.len())
 }
 
-pub fn fill_in(s: Store, size: usize, align: usize, value: u8) -> Store {
-    number(b"fill ", size);
-    number(b" align ", align);
+pub fn fill_in<W: Write>(
+    out: &mut W,
+    s: Store,
+    size: usize,
+    align: usize,
+    value: u8,
+) -> io::Result<Store> {
+    number(out, b"fill ", size)?;
+    number(out, b" align ", align)?;
     let a = s.arena;
     let mut b = [46u8; 16384];
     let n = put_bytes(&mut b, &s.bytes, s.lent);
     let got = calls::write::fill_in(a, &mut b[..n], size, align, value);
     plant(&mut b, s.plant);
-    given(s, got, b, size)
+    given(out, s, got, b, size)
 }
 
-fn show_change(offset: usize, old: usize, old_align: usize, new: usize, new_align: usize) {
-    number(b" ", offset);
-    number(b" size ", old);
-    number(b" align ", old_align);
-    number(b" to size ", new);
-    number(b" align ", new_align);
+fn show_change<W: Write>(
+    out: &mut W,
+    offset: usize,
+    old: usize,
+    old_align: usize,
+    new: usize,
+    new_align: usize,
+) -> io::Result<()> {
+    number(out, b" ", offset)?;
+    number(out, b" size ", old)?;
+    number(out, b" align ", old_align)?;
+    number(out, b" to size ", new)?;
+    number(out, b" align ", new_align)
 }
 
-pub fn grow(
+pub fn grow<W: Write>(
+    out: &mut W,
     s: Store,
     offset: usize,
     old: usize,
     old_align: usize,
     new: usize,
     new_align: usize,
-) -> Store {
-    text(b"grow");
-    show_change(offset, old, old_align, new, new_align);
+) -> io::Result<Store> {
+    text(out, b"grow")?;
+    show_change(out, offset, old, old_align, new, new_align)?;
     let a = s.arena;
     let mut b = [46u8; 16384];
     let n = put_bytes(&mut b, &s.bytes, s.lent);
     let got = reshape::grow::grow(a, &mut b[..n], offset, old, old_align, new, new_align);
     plant(&mut b, s.plant);
-    given(s, got, b, new)
+    given(out, s, got, b, new)
 }
 
-pub fn grow_zeroed(
+pub fn grow_zeroed<W: Write>(
+    out: &mut W,
     s: Store,
     offset: usize,
     old: usize,
     old_align: usize,
     new: usize,
     new_align: usize,
-) -> Store {
-    text(b"grow zeroed");
-    show_change(offset, old, old_align, new, new_align);
+) -> io::Result<Store> {
+    text(out, b"grow zeroed")?;
+    show_change(out, offset, old, old_align, new, new_align)?;
     let a = s.arena;
     let mut b = [46u8; 16384];
     let n = put_bytes(&mut b, &s.bytes, s.lent);
     let got = reshape::grow::grow_zeroed(a, &mut b[..n], offset, old, old_align, new, new_align);
     plant(&mut b, s.plant);
-    given(s, got, b, new)
+    given(out, s, got, b, new)
 }
 
-pub fn shrink(
+pub fn shrink<W: Write>(
+    out: &mut W,
     s: Store,
     offset: usize,
     old: usize,
     old_align: usize,
     new: usize,
     new_align: usize,
-) -> Store {
-    text(b"shrink");
-    show_change(offset, old, old_align, new, new_align);
+) -> io::Result<Store> {
+    text(out, b"shrink")?;
+    show_change(out, offset, old, old_align, new, new_align)?;
     let a = s.arena;
     let mut b = [46u8; 16384];
     let n = put_bytes(&mut b, &s.bytes, s.lent);
     let got = reshape::shrink::shrink(a, &mut b[..n], offset, old, old_align, new, new_align);
     plant(&mut b, s.plant);
-    given(s, got, b, new)
+    given(out, s, got, b, new)
 }
 
-pub fn resize(s: Store, offset: usize, old: usize, align: usize, new: usize) -> Store {
-    number(b"resize ", offset);
-    number(b" size ", old);
-    number(b" align ", align);
-    number(b" to size ", new);
+pub fn resize<W: Write>(
+    out: &mut W,
+    s: Store,
+    offset: usize,
+    old: usize,
+    align: usize,
+    new: usize,
+) -> io::Result<Store> {
+    number(out, b"resize ", offset)?;
+    number(out, b" size ", old)?;
+    number(out, b" align ", align)?;
+    number(out, b" to size ", new)?;
     let a = s.arena;
     let mut b = [46u8; 16384];
     let n = put_bytes(&mut b, &s.bytes, s.lent);
     let got = reshape::resize::resize(a, &mut b[..n], offset, old, align, new);
     plant(&mut b, s.plant);
-    given(s, got, b, new)
+    given(out, s, got, b, new)
 }
 
-pub fn free(s: Store, offset: usize, size: usize, align: usize) -> Store {
-    number(b"free ", offset);
-    number(b" size ", size);
-    number(b" align ", align);
+pub fn free<W: Write>(
+    out: &mut W,
+    s: Store,
+    offset: usize,
+    size: usize,
+    align: usize,
+) -> io::Result<Store> {
+    number(out, b"free ", offset)?;
+    number(out, b" size ", size)?;
+    number(out, b" align ", align)?;
     let a = s.arena;
-    done(s, calls::free::free(a, offset, size, align))
+    done(out, s, calls::free::free(a, offset, size, align))
 }
 
 fn set_each(part: &mut [u8], value: u8) {
@@ -201,21 +250,34 @@ fn lends_only(s: Store, offset: usize, size: usize, align: usize) -> bool {
     same_outside(&before, &b, 0, 0)
 }
 
-fn show_lent(s: Store, after: [u8; 16384], offset: usize, size: usize, align: usize) {
+fn show_lent<W: Write>(
+    out: &mut W,
+    s: Store,
+    after: [u8; 16384],
+    offset: usize,
+    size: usize,
+    align: usize,
+) -> io::Result<()> {
     if !lends_only(s, offset, size, align) {
-        show_others(false);
-        return;
+        return show_others(out, false);
     }
     let before = s.bytes;
     let end = std::num::wrapping_add_usize(offset, size);
-    show_others(same_outside(&before, &after, offset, end));
+    show_others(out, same_outside(&before, &after, offset, end))
 }
 
 // What is lent is written on.
-pub fn lend(s: Store, offset: usize, size: usize, align: usize, value: u8) -> Store {
-    number(b"lend ", offset);
-    number(b" size ", size);
-    number(b" align ", align);
+pub fn lend<W: Write>(
+    out: &mut W,
+    s: Store,
+    offset: usize,
+    size: usize,
+    align: usize,
+    value: u8,
+) -> io::Result<Store> {
+    number(out, b"lend ", offset)?;
+    number(out, b" size ", size)?;
+    number(out, b" align ", align)?;
     let a = s.arena;
     let mut b = [46u8; 16384];
     let n = put_bytes(&mut b, &s.bytes, s.lent);
@@ -230,29 +292,35 @@ pub fn lend(s: Store, offset: usize, size: usize, align: usize, value: u8) -> St
         plant: s.plant,
         bytes: b,
     };
-    show_answer(answer);
-    number(b", bytes lent ", count);
+    show_answer(out, answer)?;
+    number(out, b", bytes lent ", count)?;
     if was_done(answer) {
-        show_lent(s, b, offset, size, align);
+        show_lent(out, s, b, offset, size, align)?;
     }
-    show_after(was_done(answer), s, after);
-    after
+    show_after(out, was_done(answer), s, after)?;
+    Ok(after)
 }
 
-pub fn allocate_with_token(s: Store, size: usize, align: usize) -> Store {
-    number(b"token allocate ", size);
-    number(b" align ", align);
+pub fn allocate_with_token<W: Write>(
+    out: &mut W,
+    s: Store,
+    size: usize,
+    align: usize,
+) -> io::Result<Store> {
+    number(out, b"token allocate ", size)?;
+    number(out, b" align ", align)?;
     let a = s.arena;
     let mut b = [46u8; 16384];
     let n = put_bytes(&mut b, &s.bytes, s.lent);
     let got = takeback::tokens::allocate_with_token(a, &b[..n], size, align);
     plant(&mut b, s.plant);
     let token = got.token;
-    number(b" gives token ", token.count);
-    number(b" ", token.pointer);
+    number(out, b" gives token ", token.count)?;
+    number(out, b" ", token.pointer)?;
     let answer = got.answer;
     let held = got.arena;
     given(
+        out,
         s,
         Allocation {
             answer: answer,
@@ -263,38 +331,44 @@ pub fn allocate_with_token(s: Store, size: usize, align: usize) -> Store {
     )
 }
 
-pub fn cancel(s: Store, offset: usize, count: usize, pointer: usize) -> Store {
-    number(b"cancel ", offset);
-    number(b" token ", count);
-    number(b" ", pointer);
+pub fn cancel<W: Write>(
+    out: &mut W,
+    s: Store,
+    offset: usize,
+    count: usize,
+    pointer: usize,
+) -> io::Result<Store> {
+    number(out, b"cancel ", offset)?;
+    number(out, b" token ", count)?;
+    number(out, b" ", pointer)?;
     let a = s.arena;
     let token = Token {
         count: count,
         pointer: pointer,
     };
-    done(s, takeback::tokens::cancel(a, offset, token))
+    done(out, s, takeback::tokens::cancel(a, offset, token))
 }
 
-pub fn reset(s: Store) -> Store {
-    text(b"reset");
+pub fn reset<W: Write>(out: &mut W, s: Store) -> io::Result<Store> {
+    text(out, b"reset")?;
     let a = s.arena;
-    done(s, a.reset())
+    done(out, s, a.reset())
 }
 
-pub fn limit(s: Store, limit: usize) -> Store {
-    number(b"limit ", limit);
+pub fn limit<W: Write>(out: &mut W, s: Store, limit: usize) -> io::Result<Store> {
+    number(out, b"limit ", limit)?;
     let a = s.arena;
-    done(s, a.set_allocation_limit(limit))
+    done(out, s, a.set_allocation_limit(limit))
 }
 
-pub fn no_limit(s: Store) -> Store {
-    text(b"no limit");
+pub fn no_limit<W: Write>(out: &mut W, s: Store) -> io::Result<Store> {
+    text(out, b"no limit")?;
     let a = s.arena;
-    done(s, a.no_allocation_limit())
+    done(out, s, a.no_allocation_limit())
 }
 
-pub fn record(s: Store) {
-    text(b"record");
+pub fn record<W: Write>(out: &mut W, s: Store) -> io::Result<()> {
+    text(out, b"record")?;
     let a = s.arena;
-    show_record(a);
+    show_record(out, a)
 }

@@ -3,6 +3,8 @@ ghost use Rattle.std.specs.Prelude.{◌≡◌, ◌≤◌, length, take};
 
 use crate::say::{show_byte, show_current};
 use arena::Arena;
+use std::io;
+use std::io::Write;
 use trial::row::{are_same, number_at, with_number};
 use trial::say::{number, text};
 
@@ -134,36 +136,40 @@ pub fn same_store(x: Store, y: Store) -> bool {
 }
 
 // The end of a line. A refused call must leave everything as it was.
-pub fn show_after(served: bool, before: Store, after: Store) {
+pub fn show_after<W: Write>(
+    out: &mut W,
+    served: bool,
+    before: Store,
+    after: Store,
+) -> io::Result<()> {
     if served {
         let a = after.arena;
-        show_current(a);
-        return;
+        return show_current(out, a);
     }
     if same_store(before, after) {
-        text(b", unchanged\n");
+        text(out, b", unchanged\n")
     } else {
-        text(b", CHANGED\n");
+        text(out, b", CHANGED\n")
     }
 }
 
 // Of a served call: whether the bytes that it may not write are as they were.
-pub fn show_others(same: bool) {
+pub fn show_others<W: Write>(out: &mut W, same: bool) -> io::Result<()> {
     if same {
-        text(b", other bytes unchanged");
+        text(out, b", other bytes unchanged")
     } else {
-        text(b", OTHER BYTES CHANGED");
+        text(out, b", OTHER BYTES CHANGED")
     }
 }
 
-pub fn show_bytes(s: Store, from: usize, to: usize) {
-    number(b"bytes ", from);
-    number(b" to ", to);
-    text(b": ");
+pub fn show_bytes<W: Write>(out: &mut W, s: Store, from: usize, to: usize) -> io::Result<()> {
+    number(out, b"bytes ", from)?;
+    number(out, b" to ", to)?;
+    text(out, b": ")?;
     for i in from..to {
         if i < 16384 {
-            show_byte(s.bytes[i]);
+            show_byte(out, s.bytes[i])?;
         }
     }
-    text(b"\n");
+    text(out, b"\n")
 }

@@ -1,6 +1,10 @@
 // The list that tools/requests makes: a name, a file and its lines, each a 4-byte length and as many bytes, and again to the end.
 ghost use Rattle.std.specs.Prelude.{◌<◌, ◌≤◌};
+ghost use Rattle.std.specs.Io.{ReadsAtMost};
 ghost use Rattle.io.specs.Counts.{IsPrefixLen};
+
+use std::io;
+use std::io::{ErrorKind, Read};
 
 pub fn lesser(a: usize, b: usize) -> usize
     ensures upper_bound { result ≤ a }
@@ -22,22 +26,44 @@ fn wide(b: u8) -> usize
     b as usize
 }
 
+// Reads until the part is full or the input ends. Answers how many bytes it put at the front.
+fn read_full<R: Read>(reader: &mut R, part: &mut [u8]) -> io::Result<usize>
+    ensures { ReadsAtMost result part.new }
+{
+    let mut done = 0;
+    for _ in 0..u64::MAX {
+        if done == part.len() {
+            break;
+        }
+        match reader.read(&mut part[done..]) {
+            Ok(0) => break,
+            Ok(n) => done += n,
+            Err(e) => {
+                if e.kind() != ErrorKind::Interrupted {
+                    return Err(e);
+                }
+            }
+        }
+    }
+    Ok(done)
+}
+
 // A length, big-endian; 0 at the end of the list.
-fn read_length() -> usize {
+fn read_length<R: Read>(reader: &mut R) -> io::Result<usize> {
     let mut four = [0u8; 4];
-    io::read_full(libc::STDIN_FILENO, &mut four);
+    read_full(reader, &mut four)?;
     let high = wide(four[0]) * 256 + wide(four[1]);
     let low = wide(four[2]) * 256 + wide(four[3]);
-    high * 65536 + low
+    Ok(high * 65536 + low)
 }
 
 // Answers how many bytes of the next piece it put at the front: all, where they fit.
-pub fn read_piece(piece: &mut [u8]) -> usize
-    ensures { IsPrefixLen result piece.new }
+pub fn read_piece<R: Read>(reader: &mut R, piece: &mut [u8]) -> io::Result<usize>
+    ensures { ReadsAtMost result piece.new }
 {
-    let n = within(read_length(), piece);
-    let got = io::read_full(libc::STDIN_FILENO, &mut piece[..n]);
-    within(got, piece)
+    let n = within(read_length(reader)?, piece);
+    let got = read_full(reader, &mut piece[..n])?;
+    Ok(within(got, piece))
 }
 
 // How many bytes from the first on are the same in both.

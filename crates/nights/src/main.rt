@@ -9,6 +9,8 @@ mod ways;
 
 use crate::list::{agreed, count_lines, read_piece, within};
 use crate::ways::{run_by_bytes, run_cut};
+use std::io;
+use std::io::{Read, Write};
 
 // The longest file is a header, a record of 65,535 bytes and some more.
 const FILE: usize = 131072;
@@ -93,90 +95,112 @@ fn judge(file: &[u8], lines: &[u8], output: &mut [u8]) -> Verdict {
     }
 }
 
-fn say(text: &[u8]) {
-    io::write_all(libc::STDOUT_FILENO, text);
+fn say<W: Write>(out: &mut W, text: &[u8]) -> io::Result<()> {
+    out.write_all(text)
 }
 
-fn say_number(n: usize) {
-    io::print_decimal(libc::STDOUT_FILENO, n as u64);
+fn say_number<W: Write>(out: &mut W, n: usize) -> io::Result<()> {
+    write!(out, "{n}")
 }
 
 // Answers whether it is the same.
-fn report_text(name: &[u8], way: &[u8], text: Text) -> bool {
+fn report_text<W: Write>(out: &mut W, name: &[u8], way: &[u8], text: Text) -> io::Result<bool> {
     match text {
-        Text::Same => true,
+        Text::Same => Ok(true),
         Text::Differs(place) => {
-            say(name);
-            say(way);
-            say(b" differs at byte ");
-            say_number(place);
-            say(b"\n");
-            false
+            say(out, name)?;
+            say(out, way)?;
+            say(out, b" differs at byte ")?;
+            say_number(out, place)?;
+            say(out, b"\n")?;
+            Ok(false)
         }
     }
 }
 
-fn report_cuts(name: &[u8], cuts: Cuts) -> bool {
+fn report_cuts<W: Write>(out: &mut W, name: &[u8], cuts: Cuts) -> io::Result<bool> {
     if cuts.differ == 0 {
-        return true;
+        return Ok(true);
     }
-    say(name);
-    say(b": ");
-    say_number(cuts.differ);
-    say(b" cuts differ, the first at ");
-    say_number(cuts.at);
-    report_text(b"", b", which", Text::Differs(cuts.place))
+    say(out, name)?;
+    say(out, b": ")?;
+    say_number(out, cuts.differ)?;
+    say(out, b" cuts differ, the first at ")?;
+    say_number(out, cuts.at)?;
+    report_text(out, b"", b", which", Text::Differs(cuts.place))
 }
 
-fn report(name: &[u8], lines: &[u8], verdict: Verdict) {
+fn report<W: Write>(out: &mut W, name: &[u8], lines: &[u8], verdict: Verdict) -> io::Result<()> {
     let at_once = verdict.whole;
     let in_bytes = verdict.by_bytes;
     let cut = verdict.cuts;
-    let whole = report_text(name, b": the whole file", at_once);
-    let by_bytes = report_text(name, b": a byte more at a time", in_bytes);
-    let cuts = report_cuts(name, cut);
+    let whole = report_text(out, name, b": the whole file", at_once)?;
+    let by_bytes = report_text(out, name, b": a byte more at a time", in_bytes)?;
+    let cuts = report_cuts(out, name, cut)?;
     if !whole {
-        return;
+        return Ok(());
     }
     if !by_bytes {
-        return;
+        return Ok(());
     }
     if !cuts {
-        return;
+        return Ok(());
     }
-    say(name);
-    say(b": ");
-    say_number(count_lines(lines));
-    say(b" lines\n");
+    say(out, name)?;
+    say(out, b": ")?;
+    say_number(out, count_lines(lines))?;
+    say(out, b" lines\n")
 }
 
 // Answers whether there was one.
-fn next_night(name: &mut [u8], file: &mut [u8], lines: &mut [u8], output: &mut [u8]) -> bool {
-    let n = read_piece(name);
+fn next_night<R: Read, W: Write>(
+    name: &mut [u8],
+    file: &mut [u8],
+    lines: &mut [u8],
+    output: &mut [u8],
+    reader: &mut R,
+    out: &mut W,
+) -> io::Result<bool> {
+    let n = read_piece(reader, name)?;
     if n == 0 {
-        return false;
+        return Ok(false);
     }
-    let f = read_piece(file);
-    let l = read_piece(lines);
+    let f = read_piece(reader, file)?;
+    let l = read_piece(reader, lines)?;
     let verdict = judge(&file[..f], &lines[..l], output);
-    report(&name[..n], &lines[..l], verdict);
-    true
+    report(out, &name[..n], &lines[..l], verdict)?;
+    Ok(true)
 }
 
-fn run_all(name: &mut [u8], file: &mut [u8], lines: &mut [u8], output: &mut [u8]) {
+fn run_all<R: Read, W: Write>(
+    name: &mut [u8],
+    file: &mut [u8],
+    lines: &mut [u8],
+    output: &mut [u8],
+    reader: &mut R,
+    out: &mut W,
+) -> io::Result<()> {
     let mut left: u32 = 4000000000;
     while 0 < left {
-        if !next_night(name, file, lines, output) {
-            return;
+        if !next_night(name, file, lines, output, reader, out)? {
+            return Ok(());
         }
         left -= 1;
     }
+    Ok(())
 }
 
-fn main() {
-    let mut name = io::buffer();
+fn main(rt: HostRuntime) -> io::Result<()> {
+    let mut name = [0u8; 4096];
     let mut file = [0u8; FILE];
-    let mut lines = io::large_buffer();
-    let mut output = io::large_buffer();
-    run_all(&mut name, &mut file, &mut lines, &mut output);
+    let mut lines = [0u8; 65536];
+    let mut output = [0u8; 65536];
+    run_all(
+        &mut name,
+        &mut file,
+        &mut lines,
+        &mut output,
+        &mut rt.stdin(),
+        &mut rt.stdout(),
+    )
 }

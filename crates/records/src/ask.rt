@@ -1,6 +1,8 @@
 // The calls that can answer STATE, by number. Each names the block of one byte at the current pointer where it names one.
 use arena::{Arena, Outcome};
 use calls::{Allocation, Token};
+use std::io;
+use std::io::Write;
 use trial::say::{answer_number, given_number, text};
 
 pub const CALLS: usize = 16;
@@ -109,23 +111,23 @@ pub fn ask(which: usize, a: Arena, region: &mut [u8]) -> Asked {
     }
 }
 
-pub fn show_call(which: usize) {
+pub fn show_call<W: Write>(out: &mut W, which: usize) -> io::Result<()> {
     match which {
-        0 => text(b"allocate"),
-        1 => text(b"allocate with a token"),
-        2 => text(b"copy in"),
-        3 => text(b"fill"),
-        4 => text(b"grow"),
-        5 => text(b"grow zeroed"),
-        6 => text(b"shrink"),
-        7 => text(b"resize"),
-        8 => text(b"free"),
-        9 => text(b"cancel"),
-        10 => text(b"reset"),
-        11 => text(b"set limit"),
-        12 => text(b"no limit"),
-        13 => text(b"lend"),
-        14 => text(b"the answer beside lend"),
-        _ => text(b"walk"),
+        0 => text(out, b"allocate"),
+        1 => text(out, b"allocate with a token"),
+        2 => text(out, b"copy in"),
+        3 => text(out, b"fill"),
+        4 => text(out, b"grow"),
+        5 => text(out, b"grow zeroed"),
+        6 => text(out, b"shrink"),
+        7 => text(out, b"resize"),
+        8 => text(out, b"free"),
+        9 => text(out, b"cancel"),
+        10 => text(out, b"reset"),
+        11 => text(out, b"set limit"),
+        12 => text(out, b"no limit"),
+        13 => text(out, b"lend"),
+        14 => text(out, b"the answer beside lend"),
+        _ => text(out, b"walk"),
     }
 }

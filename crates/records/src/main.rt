@@ -10,9 +10,11 @@ use crate::ask::{Asked, CALLS, ask, show_call};
 use crate::plant::{NOTHING, is_pattern, planted, set_pattern};
 use arena::creation::emptied;
 use arena::{Arena, Head};
+use std::io;
+use std::io::{BufWriter, Write};
 use trial::row::{are_same, with_chunk, with_number};
 use trial::say::{number, text};
-use trial::table::{Numbers, begins, find, lesser, read_numbers, within};
+use trial::table::{Numbers, begins, find, lesser, read_numbers, read_table, within};
 
 // What a call was found to do.
 #[derive(Clone, Copy)]
@@ -51,44 +53,53 @@ fn outcome_of(bytes: &mut [u8], which: usize, a: Arena, refused: bool, place: us
 }
 
 // Says what is otherwise than the table says, and answers how many times it was.
-fn show_found(which: usize, f: Found) -> usize {
+fn show_found<W: Write>(out: &mut W, which: usize, f: Found) -> io::Result<usize> {
     match f {
-        Found::AsTheTableSays => 0,
+        Found::AsTheTableSays => Ok(0),
         Found::Answered(refusal) => {
-            text(b" ");
-            show_call(which);
-            number(b" answered ", refusal);
-            text(b";");
-            1
+            text(out, b" ")?;
+            show_call(out, which)?;
+            number(out, b" answered ", refusal)?;
+            text(out, b";")?;
+            Ok(1)
         }
         Found::Changed => {
-            text(b" ");
-            show_call(which);
-            text(b" changed something;");
-            1
+            text(out, b" ")?;
+            show_call(out, which)?;
+            text(out, b" changed something;")?;
+            Ok(1)
         }
     }
 }
 
-fn show_faults(bytes: &mut [u8], a: Arena, refused: bool) -> usize {
+fn show_faults<W: Write>(
+    out: &mut W,
+    bytes: &mut [u8],
+    a: Arena,
+    refused: bool,
+) -> io::Result<usize> {
     let mut faults = 0;
     for which in 0..CALLS {
-        let one = show_found(which, outcome_of(bytes, which, a, refused, NOTHING));
+        let one = show_found(out, which, outcome_of(bytes, which, a, refused, NOTHING))?;
         faults = std::num::wrapping_add_usize(faults, one);
     }
-    faults
+    Ok(faults)
 }
 
-fn show_verdict(bytes: &mut [u8], a: Arena, refused: bool) {
-    text(b":");
-    if 0 < show_faults(bytes, a, refused) {
-        text(b" OTHERWISE\n");
-        return;
+fn show_verdict<W: Write>(
+    out: &mut W,
+    bytes: &mut [u8],
+    a: Arena,
+    refused: bool,
+) -> io::Result<()> {
+    text(out, b":")?;
+    if 0 < show_faults(out, bytes, a, refused)? {
+        return text(out, b" OTHERWISE\n");
     }
     if refused {
-        text(b" refused 1 by every call\n");
+        text(out, b" refused 1 by every call\n")
     } else {
-        text(b" sound\n");
+        text(out, b" sound\n")
     }
 }
 
@@ -124,29 +135,30 @@ fn record_of(n: Numbers) -> Arena {
 }
 
 // A verdict, a name, a colon and the record's numbers. Any other line is skipped.
-fn run_line(bytes: &mut [u8], line: &[u8]) {
+fn run_line<W: Write>(out: &mut W, bytes: &mut [u8], line: &[u8]) -> io::Result<()> {
     let refused = begins(line, b"refused ");
     if !refused {
         if !begins(line, b"sound ") {
-            return;
+            return Ok(());
         }
     }
     let colon = find(line, 0, b':');
     let name = lesser(std::num::wrapping_add_usize(find(line, 0, b' '), 1), colon);
-    text(&line[name..colon]);
-    show_verdict(bytes, record_of(read_numbers(&line[colon..])), refused);
+    text(out, &line[name..colon])?;
+    show_verdict(out, bytes, record_of(read_numbers(&line[colon..])), refused)
 }
 
-fn run_lines(bytes: &mut [u8], table: &[u8]) {
+fn run_lines<W: Write>(out: &mut W, bytes: &mut [u8], table: &[u8]) -> io::Result<()> {
     let mut from = 0;
     let mut left = table.len();
     while 0 < left {
         let end = find(table, from, b'\n');
         let start = lesser(from, end);
-        run_line(bytes, &table[start..end]);
+        run_line(out, bytes, &table[start..end])?;
         from = std::num::wrapping_add_usize(end, 1);
         left = if from < table.len() { left - 1 } else { 0 };
     }
+    Ok(())
 }
 
 fn is_changed(f: Found) -> bool {
@@ -168,24 +180,27 @@ fn seen(bytes: &mut [u8], which: usize, a: Arena) -> usize {
     count
 }
 
-fn show_planted(bytes: &mut [u8], a: Arena) {
+fn show_planted<W: Write>(out: &mut W, bytes: &mut [u8], a: Arena) -> io::Result<()> {
     for which in 0..CALLS {
-        text(b"planted after ");
-        show_call(which);
-        number(b": ", seen(bytes, which, a));
-        number(b" of ", NOTHING);
-        text(b" changes seen\n");
+        text(out, b"planted after ")?;
+        show_call(out, which)?;
+        number(out, b": ", seen(bytes, which, a))?;
+        number(out, b" of ", NOTHING)?;
+        text(out, b" changes seen\n")?;
     }
+    Ok(())
 }
 
-fn main() {
-    let mut bytes = io::buffer();
-    let mut table = io::large_buffer();
-    let n = io::read_full(libc::STDIN_FILENO, &mut table);
-    run_lines(&mut bytes, &table[..n]);
+fn main(rt: HostRuntime) -> io::Result<()> {
+    let mut bytes = [0u8; 4096];
+    let mut table = [0u8; 65536];
+    let n = read_table(&mut rt.stdin(), &mut table)?;
+    let mut out = BufWriter::new(rt.alloc(), rt.stdout())?;
+    run_lines(&mut out, &mut bytes, &table[..n])?;
     let unsound = Numbers {
         count: 0,
         of: [33; 136],
     };
-    show_planted(&mut bytes, head_of(unsound));
+    show_planted(&mut out, &mut bytes, head_of(unsound))?;
+    out.flush()
 }

@@ -12,9 +12,11 @@ use arena::placing::{Place, lowest_place};
 use arena::sizing::usable_size;
 use arena::sound::{is_allowed_align, is_sound};
 use arena::{Arena, Chunk, Head};
+use std::io;
+use std::io::{BufWriter, Write};
 use trial::row::{with_chunk, with_number};
 use trial::say::{number, text};
-use trial::table::{Numbers, begins, find, lesser, read_numbers};
+use trial::table::{Numbers, begins, find, lesser, read_numbers, read_table};
 
 // What a rule says. It isn't asked where the record is unsound or the request isn't allowed.
 #[derive(Clone, Copy)]
@@ -108,22 +110,22 @@ fn ask_place(a: Arena, n: usize, multiple: usize) -> Said {
     }
 }
 
-fn show_said(s: Said) {
+fn show_said<W: Write>(out: &mut W, s: Said) -> io::Result<()> {
     match s {
-        Said::Usable(n) => number(b" = ", n),
+        Said::Usable(n) => number(out, b" = ", n)?,
         Said::Chunk(c) => {
-            number(b" = ", c.size);
-            number(b" at ", c.start);
+            number(out, b" = ", c.size)?;
+            number(out, b" at ", c.start)?;
         }
         Said::Unserved(n) => {
-            number(b" = ", n);
-            text(b" not served");
+            number(out, b" = ", n)?;
+            text(out, b" not served")?;
         }
-        Said::Place(at) => number(b" = ", at),
-        Said::Nothing => text(b" = none"),
-        Said::NotAsked => text(b" not asked"),
+        Said::Place(at) => number(out, b" = ", at)?,
+        Said::Nothing => text(out, b" = none")?,
+        Said::NotAsked => text(out, b" not asked")?,
     }
-    text(b"\n");
+    text(out, b"\n")
 }
 
 fn number_of(n: Numbers, i: usize) -> usize {
@@ -170,50 +172,53 @@ fn record_of(n: Numbers) -> Arena {
     a
 }
 
-fn show_question(a: Arena, question: &[u8]) {
+// A question that begins otherwise is skipped.
+fn show_question<W: Write>(out: &mut W, a: Arena, question: &[u8]) -> io::Result<()> {
     let n = read_numbers(question);
     if begins(question, b": rung ") {
-        show_said(ask_rung(a, n.of[0], n.of[1], n.of[2]));
-        return;
+        return show_said(out, ask_rung(a, n.of[0], n.of[1], n.of[2]));
     }
     if begins(question, b": ladder ") {
-        show_said(ask_ladder(a, n.of[0], n.of[1]));
-        return;
+        return show_said(out, ask_ladder(a, n.of[0], n.of[1]));
     }
     if begins(question, b": place ") {
-        show_said(ask_place(a, n.of[0], n.of[1]));
+        return show_said(out, ask_place(a, n.of[0], n.of[1]));
     }
+    Ok(())
 }
 
 // Lines that begin otherwise than a question are skipped.
-fn run_line(line: &[u8]) {
+fn run_line<W: Write>(out: &mut W, line: &[u8]) -> io::Result<()> {
     if begins(line, b"usable ") {
-        text(line);
+        text(out, line)?;
         let n = read_numbers(line);
-        show_said(ask_usable(n.of[0], n.of[1], n.of[2]));
-        return;
+        return show_said(out, ask_usable(n.of[0], n.of[1], n.of[2]));
     }
     if begins(line, b"region ") {
-        text(line);
+        text(out, line)?;
         let colon = find(line, 0, b':');
-        show_question(record_of(read_numbers(&line[..colon])), &line[colon..]);
+        return show_question(out, record_of(read_numbers(&line[..colon])), &line[colon..]);
     }
+    Ok(())
 }
 
-fn run_lines(table: &[u8]) {
+fn run_lines<W: Write>(out: &mut W, table: &[u8]) -> io::Result<()> {
     let mut from = 0;
     let mut left = table.len();
     while 0 < left {
         let end = find(table, from, b'\n');
         let start = lesser(from, end);
-        run_line(&table[start..end]);
+        run_line(out, &table[start..end])?;
         from = std::num::wrapping_add_usize(end, 1);
         left = if from < table.len() { left - 1 } else { 0 };
     }
+    Ok(())
 }
 
-fn main() {
-    let mut table = io::large_buffer();
-    let n = io::read_full(libc::STDIN_FILENO, &mut table);
-    run_lines(&table[..n]);
+fn main(rt: HostRuntime) -> io::Result<()> {
+    let mut table = [0u8; 65536];
+    let n = read_table(&mut rt.stdin(), &mut table)?;
+    let mut out = BufWriter::new(rt.alloc(), rt.stdout())?;
+    run_lines(&mut out, &table[..n])?;
+    out.flush()
 }

@@ -1,16 +1,24 @@
 // How a line is written.
-ghost use Rattle.std.specs.Prelude.{◌≤◌};
+ghost use Rattle.std.specs.Prelude.{OnOk, ◌++◌};
+ghost use Rattle.std.specs.Fmt.{decimal};
+ghost use Rattle.std.specs.Io.KnownBytes.{Appends};
 
 use arena::{Answer, Refusal};
 use calls::Given;
+use std::io;
+use std::io::Write;
 
-pub fn text(t: &[u8]) {
-    io::write_all(libc::STDOUT_FILENO, t);
+pub fn text<W: Write>(out: &mut W, t: &[u8]) -> io::Result<()>
+    ensures { OnOk result (Appends (W.contents out.old) (W.contents out.new) t.now) }
+{
+    out.write_all(t)
 }
 
-pub fn number(before: &[u8], n: usize) {
-    text(before);
-    io::print_decimal(libc::STDOUT_FILENO, n as u64);
+pub fn number<W: Write>(out: &mut W, before: &[u8], n: usize) -> io::Result<()>
+    ensures { OnOk result (Appends (W.contents out.old) (W.contents out.new) (before.now ++ decimal n)) }
+{
+    text(out, before)?;
+    write!(out, "{n}")
 }
 
 // Document 01's number of a refusal.

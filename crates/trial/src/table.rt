@@ -1,6 +1,10 @@
 // A table as text: a case a line, with its numbers in decimal.
-ghost use Rattle.std.specs.Prelude.{◌≤◌};
-ghost use Rattle.io.specs.Counts.{IsPrefixLen};
+ghost use Rattle.std.specs.Prelude.{◌≡◌, ◌<◌, ◌≤◌, IfOk, length, take};
+ghost use Rattle.std.specs.Io.{ReadsAtMost};
+ghost use Rattle.std.specs.Io.KnownBytes.{Consumes, IsAtEnd};
+
+use std::io;
+use std::io::Read;
 
 pub fn lesser(a: usize, b: usize) -> usize
     ensures upper_bound { result ≤ a }
@@ -11,14 +15,33 @@ pub fn lesser(a: usize, b: usize) -> usize
 
 // As many of the bytes as there are, up to n.
 pub fn within(n: usize, bytes: &[u8]) -> usize
-    ensures { IsPrefixLen result bytes.now }
+    ensures bound { result ≤ length bytes.now }
+    ensures prefix { result ≡ length (take result bytes.now) }
 {
     lesser(n, bytes.len())
 }
 
+// Reads until the bytes are full or the input ends, and answers how many were read. What a failed read leaves in the bytes is not said.
+pub fn read_table<R: Read>(input: &mut R, bytes: &mut [u8]) -> io::Result<usize>
+    ensures bound { ReadsAtMost result bytes.new }
+    ensures taken { IfOk result (λ n. Consumes (R.remaining input.old) (R.remaining input.new) (take n bytes.new)) }
+    ensures end { IfOk result (λ n. n < length bytes.new → IsAtEnd (R.remaining input.new)) }
+{
+    let mut done = 0;
+    while done < bytes.len() {
+        let n = input.read(&mut bytes[done..])?;
+        if n == 0 {
+            break;
+        }
+        done += n;
+    }
+    Ok(done)
+}
+
 // Where the byte first stands from an index on; the end of the bytes where it doesn't.
 pub fn find(bytes: &[u8], from: usize, b: u8) -> usize
-    ensures { IsPrefixLen result bytes.now }
+    ensures bound { result ≤ length bytes.now }
+    ensures prefix { result ≡ length (take result bytes.now) }
 {
     let mut i = within(from, bytes);
     while i < bytes.len() {
