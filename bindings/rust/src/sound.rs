@@ -7,7 +7,7 @@
 //!   then sound and has the region's length (`created-started` in `crates/arena/proofs/StaysSound.antt`, by `standing-sound` in
 //!   `Standing.antt` beside it).
 //! * Only the proved calls are handed the record to change, and they are proved to leave a sound one with the same length: ten of
-//!   them by `run-sound` and `run-region` in `crates/requests/proofs/Keeping.antt`. By their contracts copy_in and fill change the
+//!   them by `run_sound` and `run-region` in `crates/requests/proofs/Keeping.antt`. By their contracts copy_in and fill change the
 //!   record as allocate does, and grow_zeroed as grow.
 //! * Record and region move together. A slice's length doesn't change, and its bytes may be anything.
 //!

@@ -41,7 +41,7 @@ pub struct Chunk {
     pub pointer: usize,
 }
 
-// Document 01's refusals; the definition numberOf has their numbers.
+// Document 01's refusals; the definition number_of has their numbers.
 #[derive(Clone, Copy)]
 pub enum Refusal {
     State,

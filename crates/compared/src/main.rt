@@ -1,7 +1,7 @@
 // Replays a tape of requests to the arena and writes a digest of its state after each: our side of compare/, which says what the numbers are.
 #![tactic(auto)]
 
-ghost use Rattle.std.specs.Prelude.{◌<◌};
+ghost use Rattle.std.specs.Prelude.{◌≡◌, ◌<◌, length, OnErr};
 ghost use Rattle.std.specs.Io.{ReadsAtMost};
 
 mod digest;
@@ -263,9 +263,10 @@ const BUFFER: usize = 65536;
 // The digests of a piece of 43,680 bytes, 1,820 records, fit in the output.
 const PIECE: usize = 43680;
 
-// Reads until the part is full or the input ends. Answers how many bytes it put at the front.
+// Reads until the part is full or the input ends. Answers how many bytes it put at the front. A failed read leaves the part with any bytes, and as long.
 fn read_full<R: Read>(reader: &mut R, part: &mut [u8]) -> io::Result<usize>
-    ensures { ReadsAtMost result part.new }
+    ensures ok { ReadsAtMost result part.new }
+    ensures err { OnErr result (length part.new ≡ length part.old) }
 {
     let mut done = 0;
     for _ in 0..u64::MAX {

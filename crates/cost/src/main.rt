@@ -35,12 +35,16 @@ fn number(text: &[u8]) -> usize
     n
 }
 
-// The next argument; 0 where there is none.
+// The next argument; 0 where there is none, or it is longer than any that is meant.
 fn argument(arguments: &mut Args) -> usize {
     match arguments.next() {
-        Some(text) => number(text.as_bytes()),
+        Some(text) => short_number(text.as_bytes()),
         None => 0,
     }
+}
+
+fn short_number(text: &[u8]) -> usize {
+    if 16 < text.len() { 0 } else { number(text) }
 }
 
 fn chunk_size(current: bool) -> usize

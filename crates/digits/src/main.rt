@@ -5,7 +5,7 @@ mod machines;
 
 use crate::machines::{show_held, show_requests};
 use std::io;
-use std::io::{BufWriter, Write};
+use std::io::Write;
 use trial::table::{begins, find, lesser, read_numbers, read_table};
 
 // Lines that begin otherwise are skipped.
@@ -37,7 +37,5 @@ fn main(rt: HostRuntime) -> io::Result<()> {
     let mut lent = [0u8; 65536];
     let mut table = [0u8; 65536];
     let n = read_table(&mut rt.stdin(), &mut table)?;
-    let mut out = BufWriter::new(rt.alloc(), rt.stdout())?;
-    run_lines(&mut out, &mut lent, &table[..n])?;
-    out.flush()
+    run_lines(&mut rt.stdout(), &mut lent, &table[..n])
 }

@@ -13,10 +13,9 @@ mod steps;
 mod store;
 
 use std::io;
-use std::io::{BufWriter, Write};
 
 fn main(rt: HostRuntime) -> io::Result<()> {
-    let mut out = BufWriter::new(rt.alloc(), rt.stdout())?;
+    let mut out = rt.stdout();
     creating::run(&mut out)?;
     refusing::run(&mut out)?;
     blocks::run(&mut out)?;
@@ -24,6 +23,5 @@ fn main(rt: HostRuntime) -> io::Result<()> {
     moving::run(&mut out)?;
     rewinding::run(&mut out)?;
     let new = steps::create(&mut out, 16384, 1, 448)?;
-    planting::run(&mut out, new)?;
-    out.flush()
+    planting::run(&mut out, new)
 }

@@ -1,5 +1,5 @@
 // The list that tools/requests makes: a name, a file and its lines, each a 4-byte length and as many bytes, and again to the end.
-ghost use Rattle.std.specs.Prelude.{◌<◌, ◌≤◌};
+ghost use Rattle.std.specs.Prelude.{◌≡◌, ◌<◌, ◌≤◌, length, OnErr};
 ghost use Rattle.std.specs.Io.{ReadsAtMost};
 ghost use Rattle.io.specs.Counts.{IsPrefixLen};
 
@@ -26,9 +26,10 @@ fn wide(b: u8) -> usize
     b as usize
 }
 
-// Reads until the part is full or the input ends. Answers how many bytes it put at the front.
+// Reads until the part is full or the input ends. Answers how many bytes it put at the front. A failed read leaves the part with any bytes, and as long.
 fn read_full<R: Read>(reader: &mut R, part: &mut [u8]) -> io::Result<usize>
-    ensures { ReadsAtMost result part.new }
+    ensures ok { ReadsAtMost result part.new }
+    ensures err { OnErr result (length part.new ≡ length part.old) }
 {
     let mut done = 0;
     for _ in 0..u64::MAX {
@@ -59,7 +60,8 @@ fn read_length<R: Read>(reader: &mut R) -> io::Result<usize> {
 
 // Answers how many bytes of the next piece it put at the front: all, where they fit.
 pub fn read_piece<R: Read>(reader: &mut R, piece: &mut [u8]) -> io::Result<usize>
-    ensures { ReadsAtMost result piece.new }
+    ensures ok { ReadsAtMost result piece.new }
+    ensures err { OnErr result (length piece.new ≡ length piece.old) }
 {
     let n = within(read_length(reader)?, piece);
     let got = read_full(reader, &mut piece[..n])?;

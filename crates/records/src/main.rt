@@ -11,7 +11,7 @@ use crate::plant::{NOTHING, is_pattern, planted, set_pattern};
 use arena::creation::emptied;
 use arena::{Arena, Head};
 use std::io;
-use std::io::{BufWriter, Write};
+use std::io::Write;
 use trial::row::{are_same, with_chunk, with_number};
 use trial::say::{number, text};
 use trial::table::{Numbers, begins, find, lesser, read_numbers, read_table, within};
@@ -195,12 +195,11 @@ fn main(rt: HostRuntime) -> io::Result<()> {
     let mut bytes = [0u8; 4096];
     let mut table = [0u8; 65536];
     let n = read_table(&mut rt.stdin(), &mut table)?;
-    let mut out = BufWriter::new(rt.alloc(), rt.stdout())?;
+    let mut out = rt.stdout();
     run_lines(&mut out, &mut bytes, &table[..n])?;
     let unsound = Numbers {
         count: 0,
         of: [33; 136],
     };
-    show_planted(&mut out, &mut bytes, head_of(unsound))?;
-    out.flush()
+    show_planted(&mut out, &mut bytes, head_of(unsound))
 }

@@ -13,7 +13,7 @@ use arena::sizing::usable_size;
 use arena::sound::{is_allowed_align, is_sound};
 use arena::{Arena, Chunk, Head};
 use std::io;
-use std::io::{BufWriter, Write};
+use std::io::Write;
 use trial::row::{with_chunk, with_number};
 use trial::say::{number, text};
 use trial::table::{Numbers, begins, find, lesser, read_numbers, read_table};
@@ -218,7 +218,5 @@ fn run_lines<W: Write>(out: &mut W, table: &[u8]) -> io::Result<()> {
 fn main(rt: HostRuntime) -> io::Result<()> {
     let mut table = [0u8; 65536];
     let n = read_table(&mut rt.stdin(), &mut table)?;
-    let mut out = BufWriter::new(rt.alloc(), rt.stdout())?;
-    run_lines(&mut out, &table[..n])?;
-    out.flush()
+    run_lines(&mut rt.stdout(), &table[..n])
 }

@@ -1,5 +1,5 @@
 // A table as text: a case a line, with its numbers in decimal.
-ghost use Rattle.std.specs.Prelude.{◌≡◌, ◌<◌, ◌≤◌, IfOk, length, take};
+ghost use Rattle.std.specs.Prelude.{◌≡◌, ◌<◌, ◌≤◌, ℕ, List, IfOk, OnErr, length, take};
 ghost use Rattle.std.specs.Io.{ReadsAtMost};
 ghost use Rattle.std.specs.Io.KnownBytes.{Consumes, IsAtEnd};
 
@@ -21,11 +21,13 @@ pub fn within(n: usize, bytes: &[u8]) -> usize
     lesser(n, bytes.len())
 }
 
-// Reads until the bytes are full or the input ends, and answers how many were read. What a failed read leaves in the bytes is not said.
+// Reads until the bytes are full or the input ends, and answers how many were read. Where a read fails, the reader has lost what earlier reads took; the bytes may
+// be any.
 pub fn read_table<R: Read>(input: &mut R, bytes: &mut [u8]) -> io::Result<usize>
     ensures bound { ReadsAtMost result bytes.new }
     ensures taken { IfOk result (λ n. Consumes (R.remaining input.old) (R.remaining input.new) (take n bytes.new)) }
     ensures end { IfOk result (λ n. n < length bytes.new → IsAtEnd (R.remaining input.new)) }
+    ensures err { OnErr result ((lost : List ℕ) × Consumes (R.remaining input.old) (R.remaining input.new) lost × (length lost ≤ length bytes.old)) }
 {
     let mut done = 0;
     while done < bytes.len() {
