@@ -1,11 +1,9 @@
 -- Document 01, "Creation", "Reset" and the limit calls: what each answers, and the record after it.
-use Rattle.std.specs.Prelude.{ℕ, not, cond, List, [], ◌∷◌, ltb, eqb}
-use Rattle.std.proofs.Math.Option.{Option, none, some, map}
+use Rattle.std.specs.Prelude.{ℕ, not, cond, List, [], ◌∷◌, ltb, eqb, Option, None, Some, option_map, Ok, Err}
 use Rattle.arena.specs.declared.Head.{Head}
 use Rattle.arena.specs.declared.Arena.{Arena}
 use Rattle.arena.specs.declared.Chunk.{Chunk}
 use Rattle.arena.specs.declared.Outcome.{Outcome}
-use Rattle.arena.specs.declared.Answer.TheVariants.{Done, Refused}
 use Rattle.arena.specs.declared.Refusal.{Refusal}
 use Rattle.arena.specs.declared.Refusal.TheVariants.{Region, Size, Align, Room}
 use Rattle.arena.specs.Numbers.{default_size, most}
@@ -20,7 +18,7 @@ fresh_head region minimum = record { region = region; minimum = minimum; limited
 
 -- "A refused creation returns a record with no chunk, minimum 1, no limit, region length 0"
 unfoldable pub refused_creation : Refusal → Outcome
-refused_creation r = record { answer = Refused r; arena = holding (fresh_head 0 1) [] }
+refused_creation r = record { answer = Err r; arena = holding (fresh_head 0 1) [] }
 
 abbrev pub creation_tests : ℕ → ℕ → ℕ → List Test
 creation_tests region minimum capacity =
@@ -29,15 +27,15 @@ creation_tests region minimum capacity =
 -- "Creation with capacity 0 holds no chunk. Otherwise one chunk with base 448, size the capacity, alignment the minimum; no ladder, no limit"
 unfoldable pub first_chunks : Head → ℕ → Option (List Chunk)
 first_chunks h capacity =
-    cond (eqb capacity 0) (some []) (map (λ c. c ∷ []) (rung_chunk h [] capacity h.minimum default_size))
+    cond (eqb capacity 0) (Some []) (option_map (λ c. c ∷ []) (rung_chunk h [] capacity h.minimum default_size))
 
 unfoldable pub created_with : Head → Option (List Chunk) → Outcome
-created_with h (some cs) = record { answer = Done; arena = holding h cs }
-created_with h none = refused_creation Room
+created_with h (Some cs) = record { answer = Ok tt; arena = holding h cs }
+created_with h None = refused_creation Room
 
 unfoldable pub creation : Option Refusal → Head → ℕ → Outcome
-creation (some r) h capacity = refused_creation r
-creation none h capacity = created_with h (first_chunks h capacity)
+creation (Some r) h capacity = refused_creation r
+creation None h capacity = created_with h (first_chunks h capacity)
 
 unfoldable pub created_of : ℕ → ℕ → ℕ → Outcome
 created_of region minimum capacity =

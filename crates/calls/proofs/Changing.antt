@@ -3,7 +3,7 @@
 use Prim.Native.Nat.{ℕ, ◌+◌, ◌≤◌}
 use native.Mathlib.Omega.{arith}
 use mathlib.Core.Bool.{true}
-use mathlib.Core.Option.{none}
+use Rattle.std.specs.Prelude.{None}
 use mathlib.Core.Path.{◌≡◌}
 use borrow.Author.Tests.{eq-eqb}
 use Rattle.rounding.proofs.Tests.{true-not}
@@ -22,7 +22,7 @@ use Rattle.calls.proofs.Results.{given-at, grow-result, shrink-result}
 use Rattle.calls.proofs.Testing.{block_inside}
 
 -- of a sound record in its own region, the tests of what is lent refuse nothing
-pub lent-own : (a : Arena) {lent : ℕ} → sound_of a ≡ true → lent ≡ a.head.region → refused_by (lent_tests a lent) ≡ none
+pub lent-own : (a : Arena) {lent : ℕ} → sound_of a ≡ true → lent ≡ a.head.region → refused_by (lent_tests a lent) ≡ None
 lent-own a {lent} s e = none-applies (lent_tests a lent) (true-not s, (true-not (eq-eqb lent a.head.region e), tt))
 
 pub request-tested : {a : Arena} {lent size align : ℕ} → Request a lent size align → Tested a size align

@@ -2,7 +2,7 @@
 use Prim.Native.Nat.{ℕ, ◌<◌}
 use mathlib.Core.Bool.{true}
 use mathlib.Core.List.{◌∷◌}
-use mathlib.Core.Option.{Option, none, some}
+use Rattle.std.specs.Prelude.{Option, None, Some}
 use mathlib.Core.Path.{◌≡◌, ◌∙◌, sym, ap}
 use borrow.Author.Tests.{lt-leb}
 use Rattle.arena.specs.declared.Arena.{Arena}
@@ -26,14 +26,14 @@ use Rattle.calls.specs.Shrink.{stays}
 
 module _ (a : Arena) where
   -- a refusal, and that of a request that the rules serve nothing for
-  pub placed-refused : {placed : Placed} {r : Refusal} → placed ≡ record { answer = Refused r; change = Same } → placed_of a placed ≡ given (some r) a none
+  pub placed-refused : {placed : Placed} {r : Refusal} → placed ≡ record { answer = Refused r; change = Same } → placed_of a placed ≡ given (Some r) a None
   unfolding changed_by given
   placed-refused e = ap (placed_of a) e
 
-  pub placed-nowhere : {placed : Placed} {t : Option Taken} → placed ≡ record { answer = Refused Room; change = Same } → t ≡ none →
-      placed_of a placed ≡ given none a t
+  pub placed-nowhere : {placed : Placed} {t : Option Taken} → placed ≡ record { answer = Refused Room; change = Same } → t ≡ None →
+      placed_of a placed ≡ given None a t
   unfolding changed_by given
-  placed-nowhere e f = ap (placed_of a) e ∙ sym (ap (given none a) f)
+  placed-nowhere e f = ap (placed_of a) e ∙ sym (ap (given None a) f)
 
   pub ended-refused : {ended : Ended} {r : Refusal} → ended ≡ record { answer = Refused·answer r; change = Same } →
       ended_of a ended ≡ record { answer = Refused·answer r; arena = a }
@@ -42,18 +42,18 @@ module _ (a : Arena) where
 
   -- the block that it was, in the record that it was
   pub placed-stays : {p : ℕ} {placed : Placed} {t : Option Taken} → sound_of a ≡ true → placed ≡ record { answer = At p; change = Same } →
-      t ≡ stays (held_of a) p → placed_of a placed ≡ given none a t
+      t ≡ stays (held_of a) p → placed_of a placed ≡ given None a t
   unfolding changed_by given
   placed-stays {p} s e f =
-      ap (placed_of a) e ∙ (λ i. record { answer = At p; arena = sym (holding-held (sound-open a s)) i }) ∙ sym (ap (given none a) f)
+      ap (placed_of a) e ∙ (λ i. record { answer = At p; arena = sym (holding-held (sound-open a s)) i }) ∙ sym (ap (given None a) f)
 
   -- the current chunk's block, and a new chunk's
-  pub placed-moved : {p : ℕ} {t : Option Taken} → t ≡ some (record { offset = p; chunks = moved_to (held_of a) p }) →
-      placed_of a (record { answer = At p; change = Moved p }) ≡ given none a t
+  pub placed-moved : {p : ℕ} {t : Option Taken} → t ≡ Some (record { offset = p; chunks = moved_to (held_of a) p }) →
+      placed_of a (record { answer = At p; change = Moved p }) ≡ given None a t
   unfolding changed_by given
-  placed-moved f = sym (ap (given none a) f)
+  placed-moved f = sym (ap (given None a) f)
 
-  pub placed-added : {p : ℕ} {c : Chunk} {t : Option Taken} → t ≡ some (record { offset = p; chunks = c ∷ held_of a }) → a.head.count < places →
-      placed_of a (record { answer = At p; change = Added c }) ≡ given none a t
+  pub placed-added : {p : ℕ} {c : Chunk} {t : Option Taken} → t ≡ Some (record { offset = p; chunks = c ∷ held_of a }) → a.head.count < places →
+      placed_of a (record { answer = At p; change = Added c }) ≡ given None a t
   unfolding changed_by given
-  placed-added f l = rw (lt-leb places a.head.count l) (sym (ap (given none a) f))
+  placed-added f l = rw (lt-leb places a.head.count l) (sym (ap (given None a) f))

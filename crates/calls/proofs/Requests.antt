@@ -2,7 +2,7 @@
 use Prim.Native.Nat.{ℕ, ◌≤◌, ◌<◌}
 use mathlib.Core.Bool.{true, false}
 use mathlib.Core.List.{List, [], ◌∷◌}
-use mathlib.Core.Option.{none, some}
+use Rattle.std.specs.Prelude.{None, Some}
 use mathlib.Core.Path.{◌≡◌, ◌∙◌, ap}
 use borrow.Author.Tests.{eq-eqb, ne_eqb, lt-ltb, le-ltb}
 use Rattle.rounding.proofs.Tests.{true-not, false-not}
@@ -19,7 +19,7 @@ use Rattle.calls.specs.Allocate.{allocate_in, given, request_tests, allocate_of}
 use Rattle.calls.specs.Inner.{Tested}
 
 module _ (a : Arena) (lent size align : ℕ) where
-  refuses : {r : Refusal} → refused_by (request_tests a lent size align) ≡ some r → allocate_of a lent size align ≡ given (some r) a none
+  refuses : {r : Refusal} → refused_by (request_tests a lent size align) ≡ Some r → allocate_of a lent size align ≡ given (Some r) a None
   unfolding allocate_of given
   refuses e = ap (λ o. given o a (allocate_in a.head (held_of a) size align)) e
 
@@ -36,21 +36,21 @@ module _ (a : Arena) (lent size align : ℕ) where
   past-region : sound_of a ≡ true → lent ≡ a.head.region → refused_by (request_tests a lent size align) ≡ refused_by from_size
   past-region s e = past-state s ∙ refused-later (region_test a lent) from_size (true-not (eq-eqb lent a.head.region e))
 
-  pub allocate-state : sound_of a ≡ false → allocate_of a lent size align ≡ given (some State) a none
+  pub allocate-state : sound_of a ≡ false → allocate_of a lent size align ≡ given (Some State) a None
   allocate-state s = refuses (refused-now (state_test a) from_region (false-not s))
 
-  pub allocate-region : sound_of a ≡ true → (lent ≡ a.head.region → ⊥) → allocate_of a lent size align ≡ given (some Region) a none
+  pub allocate-region : sound_of a ≡ true → (lent ≡ a.head.region → ⊥) → allocate_of a lent size align ≡ given (Some Region) a None
   allocate-region s differs = refuses (past-state s ∙ refused-now (region_test a lent) from_size (false-not (ne_eqb lent a.head.region differs)))
 
-  pub allocate-size : sound_of a ≡ true → lent ≡ a.head.region → most < size → allocate_of a lent size align ≡ given (some Size) a none
+  pub allocate-size : sound_of a ≡ true → lent ≡ a.head.region → most < size → allocate_of a lent size align ≡ given (Some Size) a None
   allocate-size s e l = refuses (past-region s e ∙ refused-now (size_test size) (align_test align ∷ []) (lt-ltb most size l))
 
   pub allocate-align : sound_of a ≡ true → lent ≡ a.head.region → size ≤ most → allowed_align align ≡ false →
-      allocate_of a lent size align ≡ given (some Align) a none
+      allocate_of a lent size align ≡ given (Some Align) a None
   allocate-align s e l t =
       refuses (past-region s e ∙ refused-later (size_test size) (align_test align ∷ []) (le-ltb most size l) ∙ refused-now (align_test align) [] (false-not t))
 
-  pub allocate-works : lent ≡ a.head.region → Tested a size align → allocate_of a lent size align ≡ given none a (allocate_in a.head (held_of a) size align)
+  pub allocate-works : lent ≡ a.head.region → Tested a size align → allocate_of a lent size align ≡ given None a (allocate_in a.head (held_of a) size align)
   unfolding allocate_of
   allocate-works e t =
       ap (λ o. given o a (allocate_in a.head (held_of a) size align))

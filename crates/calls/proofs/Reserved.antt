@@ -4,7 +4,7 @@ use Prim.Native.Nat.{ℕ, ◌+◌, ◌≤◌, ◌<◌}
 use native.Mathlib.Omega.{arith}
 use mathlib.Core.List.{List, ◌∷◌}
 use mathlib.Core.Logic.{⊎_elim}
-use mathlib.Core.Option.{Option, none, some}
+use Rattle.std.specs.Prelude.{Option, None, Some}
 use mathlib.Core.Path.{◌≡◌, refl, sym, subst, ap}
 use lib.ListN.{length, get_or, length-replicate}
 use Rattle.rounding.specs.Every.{Each}
@@ -83,14 +83,14 @@ replaced-gives is = record { stands = is.stands; lies = is.lies; reserves = move
 
 -- so where only bytes of the given block change, and none where the call is refused, no reserved byte does
 never-written : (a : Arena) (bytes left : List ℕ) (size : ℕ) (r : Option Refusal) (o : Option Taken) →
-    ((t : Taken) → r ≡ none → o ≡ some t → Gives a size t) →
+    ((t : Taken) → r ≡ None → o ≡ Some t → Gives a size t) →
     ((to : ℕ) → (given r a o).answer ≡ At to → OnlyIn bytes left to (to + size)) →
     ((refusal : Refusal) → (given r a o).answer ≡ Refused refusal → left ≡ bytes) →
     NeverWritten a (given r a o).arena bytes left
 unfolding given
-never-written a bytes left size (some r) o gives only same x in_either = ap (λ (l : List ℕ). get_or l x 0) (same r refl)
-never-written a bytes left size none none gives only same x in_either = ap (λ (l : List ℕ). get_or l x 0) (same Room refl)
-never-written a bytes left size none (some t) gives only same x in_either =
+never-written a bytes left size (Some r) o gives only same x in_either = ap (λ (l : List ℕ). get_or l x 0) (same r refl)
+never-written a bytes left size None None gives only same x in_either = ap (λ (l : List ℕ). get_or l x 0) (same Room refl)
+never-written a bytes left size None (Some t) gives only same x in_either =
     let is = gives t refl refl in
     let held = held-holding a.head t.chunks is.stands.few in
     (only t.offset refl).elsewhere x (λ low high.

@@ -1,6 +1,5 @@
 -- What the contracts between our own functions say. Nothing of document 01 is decided here, and no function that a user calls cites it.
-use Rattle.std.specs.Prelude.{ℕ, ◌+◌, ◌-◌, ◌≤◌, ◌≡◌, Bool, true, ◌&&◌, cond, List, [], ◌∷◌, leb}
-use Rattle.std.proofs.Math.Option.{Option, none, some}
+use Rattle.std.specs.Prelude.{ℕ, ◌+◌, ◌-◌, ◌≤◌, ◌≡◌, Bool, true, ◌&&◌, cond, List, [], ◌∷◌, leb, Option, None, Some}
 use Rattle.rounding.specs.Round.{round_up}
 use Rattle.arena.specs.declared.Arena.{Arena}
 use Rattle.arena.specs.declared.Chunk.{Chunk}
@@ -30,12 +29,12 @@ use Rattle.calls.specs.Write.{lend_answer}
 
 -- the answer's case: a new pointer, or none
 unfoldable pub fast_of : Option ℕ → Fast
-fast_of (some p) = Room p
-fast_of none = Full
+fast_of (Some p) = Room p
+fast_of None = Full
 
 -- the new pointer that the current chunk gives
 unfoldable pub current_pointer : ℕ → List Chunk → ℕ → ℕ → Option ℕ
-current_pointer minimum [] size align = none
+current_pointer minimum [] size align = None
 current_pointer minimum (c ∷ cs) size align = chunk_gives minimum c size align
 
 -- what has been tested of a record and a request before the inner calls
@@ -100,7 +99,7 @@ pub record LastBlock (a : Arena) (offset size align : ℕ) : Type 0 where
 -- the pointer that a block at the current one goes down to when it grows in place
 unfoldable pub grown_pointer : ℕ → List Chunk → ℕ → ℕ → ℕ → ℕ → ℕ → Option ℕ
 grown_pointer minimum cs offset old old_align new new_align =
-    cond (leb new_align old_align && at_pointer cs offset) (current_pointer minimum cs (round_up new minimum - old) old_align) none
+    cond (leb new_align old_align && at_pointer cs offset) (current_pointer minimum cs (round_up new minimum - old) old_align) None
 
 -- what the work of a grow leans on, and that of a shrink: a tested request, and a block that lies in the region
 pub record GrowTested (a : Arena) (old old_align new new_align : ℕ) : Type 0 where

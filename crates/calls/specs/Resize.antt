@@ -1,6 +1,5 @@
 -- Document 01, "Resize" (`realloc`), which keeps the alignment.
-use Rattle.std.specs.Prelude.{ℕ, min, not, ◌&&◌, cond, List, [], ◌∷◌, length, leb, eqb}
-use Rattle.std.proofs.Math.Option.{Option}
+use Rattle.std.specs.Prelude.{ℕ, min, not, ◌&&◌, cond, List, [], ◌∷◌, length, leb, eqb, Option}
 use Rattle.arena.specs.declared.Head.{Head}
 use Rattle.arena.specs.declared.Arena.{Arena}
 use Rattle.arena.specs.declared.Chunk.{Chunk}

@@ -1,6 +1,5 @@
 -- Document 01, "Copy in, fill" and "Lending a block".
-use Rattle.std.specs.Prelude.{ℕ, List, [], ◌∷◌, length, replicate}
-use Rattle.std.proofs.Math.Option.{Option, none, some}
+use Rattle.std.specs.Prelude.{ℕ, List, [], ◌∷◌, length, replicate, Option, None, Some}
 use Rattle.arena.specs.declared.Arena.{Arena}
 use Rattle.arena.specs.declared.Answer.{Answer}
 use Rattle.arena.specs.declared.Answer.TheVariants.{Done, Refused}
@@ -27,8 +26,8 @@ lend_tests a lent offset size align =
 
 -- "a call beside it says the number"
 unfoldable pub lend_answer : Option Refusal → Answer
-lend_answer (some r) = Refused r
-lend_answer none = Done
+lend_answer (Some r) = Refused r
+lend_answer None = Done
 
 unfoldable pub lend_of : Arena → ℕ → ℕ → ℕ → ℕ → Answer
 lend_of a lent offset size align = lend_answer (refused_by (lend_tests a lent offset size align))

@@ -1,6 +1,5 @@
 // Allocate: from the current chunk, else from a new one (`try_alloc_layout` in the Rust).
-ghost use Rattle.std.specs.Prelude.{◌≡◌, true, length};
-ghost use Rattle.std.proofs.Math.Option.{none, some};
+ghost use Rattle.std.specs.Prelude.{◌≡◌, true, length, None, Some};
 ghost use Rattle.arena.specs.Record.{record_of, held_of};
 ghost use Rattle.arena.specs.Sound.{sound_of};
 ghost use Rattle.arena.specs.Ladder.{ladder};
@@ -17,7 +16,7 @@ use arena::{Arena, Chunk, Head, Refusal};
 
 // The record goes back as it came.
 pub fn refused(a: Arena, r: Refusal) -> Allocation
-    ensures { result ≡ given (some r) a none }
+    ensures { result ≡ given (Some r) a None }
 {
     Allocation {
         answer: Given::Refused(r),
@@ -35,7 +34,7 @@ fn placed_slow<'a>(
     align: usize,
 ) -> Placed
     requires { Tested (record_of h starts.now sizes.now pointers.now) size align }
-    ensures { PlacedBy (λ a. given none a (new_chunk_gives a.head.minimum (held_of a) (ladder a.head (held_of a) size align) size align)) (record_of h starts.now sizes.now pointers.now) result }
+    ensures { PlacedBy (λ a. given None a (new_chunk_gives a.head.minimum (held_of a) (ladder a.head (held_of a) size align) size align)) (record_of h starts.now sizes.now pointers.now) result }
 {
     let NewChunk::Taken(c) = climb(h, starts, sizes, pointers, size, align) else {
         return nowhere(Refusal::Room);

@@ -4,7 +4,7 @@ use Prim.Native.Nat.{ℕ, ◌-◌, ◌<◌}
 use native.Mathlib.Omega.{arith}
 use mathlib.Core.Bool.{true}
 use mathlib.Core.List.{List, ◌∷◌}
-use mathlib.Core.Option.{none, some}
+use Rattle.std.specs.Prelude.{None, Some}
 use mathlib.Core.Path.{◌≡◌, refl, sym, ap, ◌∙◌}
 use lib.ListN.{set}
 use borrow.Author.Tests.{eq-eqb}
@@ -83,7 +83,7 @@ module _ (a b : Arena) (read : a ≡ b) where
       )
 
   -- the tests of the record and the lent length
-  pub lent-refused : (lent : ℕ) {answer : Answer} {r : Refusal} → answer ≡ first_of (lent_tests a lent) → answer ≡ Refused r → refused_by (lent_tests b lent) ≡ some r
+  pub lent-refused : (lent : ℕ) {answer : Answer} {r : Refusal} → answer ≡ first_of (lent_tests a lent) → answer ≡ Refused r → refused_by (lent_tests b lent) ≡ Some r
   lent-refused lent answered shows =
       tests-refuse _ (sym shows ∙ answered ∙ ap (λ (x : Arena). first_of (lent_tests x lent)) read)
 
@@ -109,7 +109,7 @@ moved-in-parts call {h} head starts sizes pointers p read sound held placed =
     above n other = omega arith
 
 -- a refused call leaves the record as it is
-pub refused-given : {a : Arena} (r : Refusal) {out : Said} {call : Allocation} → call ≡ given (some r) a none → out ≡ said (number_of r) 0 →
+pub refused-given : {a : Arena} (r : Refusal) {out : Said} {call : Allocation} → call ≡ given (Some r) a None → out ≡ said (number_of r) 0 →
     (out ≡ said_given call.answer) × (a ≡ call.arena)
 unfolding given said_given
 refused-given r stopped told = (
@@ -126,7 +126,7 @@ refused-plain r stopped told = (
 )
 
 -- nor are the region's bytes changed
-pub refused-bytes : (make : ℕ → List ℕ) (bytes : List ℕ) (a : Arena) (r : Refusal) {call : Allocation} → call ≡ given (some r) a none →
+pub refused-bytes : (make : ℕ → List ℕ) (bytes : List ℕ) (a : Arena) (r : Refusal) {call : Allocation} → call ≡ given (Some r) a None →
     bytes ≡ after_given call.answer make bytes
 unfolding given after_given
 refused-bytes make bytes a r stopped = sym (ap (λ (o : Allocation). after_given o.answer make bytes) stopped)

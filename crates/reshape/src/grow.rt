@@ -1,6 +1,5 @@
 // Grow (`grow` and `grow_zeroed` of the Rust library's Allocator).
-ghost use Rattle.std.specs.Prelude.{◌≡◌, true, length};
-ghost use Rattle.std.proofs.Math.Option.{none};
+ghost use Rattle.std.specs.Prelude.{◌≡◌, true, length, None};
 ghost use Rattle.arena.specs.Record.{record_of, chunks_of, held_of};
 ghost use Rattle.arena.specs.Sound.{sound_of};
 ghost use Rattle.calls.specs.Allocate.{given};
@@ -60,7 +59,7 @@ pub fn grown_block<'a>(
     new_align: usize,
 ) -> Placed
     requires { GrowTested (record_of h starts.now sizes.now pointers.now) old old_align new new_align }
-    ensures { PlacedBy (λ a. given none a (grow_in a.head (held_of a) offset old old_align new new_align)) (record_of h starts.now sizes.now pointers.now) result }
+    ensures { PlacedBy (λ a. given None a (grow_in a.head (held_of a) offset old old_align new new_align)) (record_of h starts.now sizes.now pointers.now) result }
 {
     let Fast::Room(p) = in_place(
         h, starts, sizes, pointers, offset, old, old_align, new, new_align,

@@ -1,6 +1,5 @@
 // Resize (`realloc` in the Rust): another size at the same alignment.
-ghost use Rattle.std.specs.Prelude.{◌≡◌, true, ◌+◌, ◌<◌, ◌≤◌, min, length};
-ghost use Rattle.std.proofs.Math.Option.{none};
+ghost use Rattle.std.specs.Prelude.{◌≡◌, true, ◌+◌, ◌<◌, ◌≤◌, min, length, None};
 ghost use Rattle.arena.specs.Record.{record_of, held_of};
 ghost use Rattle.arena.specs.Sound.{sound_of};
 ghost use Rattle.calls.specs.Allocate.{given};
@@ -35,7 +34,7 @@ fn resized_block<'a>(
 ) -> Placed
     requires tested { Tested (record_of h starts.now sizes.now pointers.now) new align }
     requires nonzero { (0 < old) × (offset + old ≤ h.region) }
-    ensures { PlacedBy (λ a. given none a (resize_in a.head (held_of a) offset old align new)) (record_of h starts.now sizes.now pointers.now) result }
+    ensures { PlacedBy (λ a. given None a (resize_in a.head (held_of a) offset old align new)) (record_of h starts.now sizes.now pointers.now) result }
 {
     if new <= old {
         return shrunk_block(h, starts, sizes, pointers, offset, old, align, new, align);

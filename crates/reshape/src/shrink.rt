@@ -1,6 +1,5 @@
 // Shrink (`shrink` of the Rust library's Allocator).
-ghost use Rattle.std.specs.Prelude.{◌≡◌, true, ◌+◌, ◌≤◌, length};
-ghost use Rattle.std.proofs.Math.Option.{none};
+ghost use Rattle.std.specs.Prelude.{◌≡◌, true, ◌+◌, ◌≤◌, length, None};
 ghost use Rattle.arena.specs.Record.{record_of, held_of};
 ghost use Rattle.arena.specs.Sound.{sound_of};
 ghost use Rattle.arena.specs.declared.change.Change.TheVariants.{Same};
@@ -46,7 +45,7 @@ fn shrunk_in_place<'a>(
     d: usize,
 ) -> Placed
     requires { (sound_of (record_of h starts.now sizes.now pointers.now) ≡ true) × (offset + old ≤ h.region) × (d ≤ old) }
-    ensures { PlacedBy (λ a. given none a (shrunk_in_place (held_of a) offset old d)) (record_of h starts.now sizes.now pointers.now) result }
+    ensures { PlacedBy (λ a. given None a (shrunk_in_place (held_of a) offset old d)) (record_of h starts.now sizes.now pointers.now) result }
 {
     if !is_at_pointer(h, starts, sizes, pointers, offset) {
         return stay(offset);
@@ -74,7 +73,7 @@ pub fn shrunk_block<'a>(
     new_align: usize,
 ) -> Placed
     requires { ShrinkTested (record_of h starts.now sizes.now pointers.now) offset old new new_align }
-    ensures { PlacedBy (λ a. given none a (shrink_in a.head (held_of a) offset old old_align new new_align)) (record_of h starts.now sizes.now pointers.now) result }
+    ensures { PlacedBy (λ a. given None a (shrink_in a.head (held_of a) offset old old_align new new_align)) (record_of h starts.now sizes.now pointers.now) result }
 {
     if new_align <= old_align {
         let d = rounding::down_to_power(old - new, larger(new_align, h.minimum));

@@ -6,7 +6,7 @@ use native.Mathlib.Decide.{dec_le}
 use native.Mathlib.Omega.{arith}
 use mathlib.Core.Bool.{true}
 use mathlib.Core.Logic.{⊎_elim}
-use mathlib.Core.Option.{Option, none, some, get_or}
+use Rattle.std.specs.Prelude.{Option, None, Some, unwrap_or}
 use mathlib.Core.Path.{◌≡◌, refl, sym, ◌∙◌, ap, subst}
 use lib.Arith.{bin_ind}
 use lib.Count.{ones, ones_step, ones_cat}
@@ -119,12 +119,12 @@ pub record Next (n p : ℕ) : Type 0 where
 abbrev choices : ℕ → ℕ → Option ℕ
 choices n k = only (leb n (2 ^ k)) (2 ^ k)
 
-too_small : (n k : ℕ) → choices n k ≡ none → 2 ^ k < n
+too_small : (n k : ℕ) → choices n k ≡ None → 2 ^ k < n
 too_small n k e = leb-false n (2 ^ k) (only-failed (leb n (2 ^ k)) (2 ^ k) e)
 
-chosen : (n : ℕ) → n ≤ 2 ^ 64 → (o : Option ℕ) → first 65 (choices n) ≡ o → Next n (get_or o 0)
-chosen n h none e = absurd (omega (arith, too_small n 64 (first-none 65 (choices n) e 64 (omega arith))))
-chosen n h (some a) e =
+chosen : (n : ℕ) → n ≤ 2 ^ 64 → (o : Option ℕ) → first 65 (choices n) ≡ o → Next n (unwrap_or o 0)
+chosen n h None e = absurd (omega (arith, too_small n 64 (first-none 65 (choices n) e 64 (omega arith))))
+chosen n h (Some a) e =
     let found = first-at 65 (choices n) e in
     let k = found.place in
     let passed = only-passed (leb n (2 ^ k)) (2 ^ k) found.here in

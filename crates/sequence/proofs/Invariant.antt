@@ -3,7 +3,7 @@
 use Prim.Native.Nat.{ℕ}
 use mathlib.Core.List.{List, ◌∷◌, map}
 use mathlib.Core.Option
-use mathlib.Core.Option.{Option, none, some}
+use Rattle.std.specs.Prelude.{Option, None, Some}
 use mathlib.Core.Path.{◌≡◌, refl, sym, ap, subst, ◌∙◌}
 use Rattle.arena.specs.declared.Head.{Head}
 use Rattle.arena.specs.declared.Arena.{Arena}
@@ -49,13 +49,13 @@ settled spaces g e = record { sound = standing-sound g.standing; spaces = spaces
 -- a call that gives out a block: refused, nothing changes
 module _ (s : State) (inv : Invariant s) (others : List Live) (after : List ℕ) (new : ℕ → Live) where
   pub giving-keeps : (r : Option Refusal) (o : Option Taken) → ((x : Refusal) → (given r s.arena o).answer ≡ Refused x → after ≡ s.bytes) →
-      ((t : Taken) → r ≡ none → o ≡ some t → (given r s.arena o).answer ≡ At t.offset →
+      ((t : Taken) → r ≡ None → o ≡ Some t → (given r s.arena o).answer ≡ At t.offset →
       Invariant (state_of (holding s.arena.head t.chunks) after (new t.offset ∷ others))) →
       Invariant (giving s others (given r s.arena o) after new)
   unfolding given if_given
-  giving-keeps (some x) o same h = subst (λ (b : List ℕ). Invariant (state_of s.arena b s.ledger)) (sym (same x refl)) inv
-  giving-keeps none none same h = subst (λ (b : List ℕ). Invariant (state_of s.arena b s.ledger)) (sym (same Room refl)) inv
-  giving-keeps none (some t) same h = h t refl refl refl
+  giving-keeps (Some x) o same h = subst (λ (b : List ℕ). Invariant (state_of s.arena b s.ledger)) (sym (same x refl)) inv
+  giving-keeps None None same h = subst (λ (b : List ℕ). Invariant (state_of s.arena b s.ledger)) (sym (same Room refl)) inv
+  giving-keeps None (Some t) same h = h t refl refl refl
 
 -- the bytes after a call that is refused are those before
 pub unchanged : {g : Given} {x : Refusal} (make : ℕ → List ℕ) (bytes : List ℕ) → g ≡ Refused x → after_given g make bytes ≡ bytes
@@ -64,13 +64,13 @@ unchanged make bytes e = rw e
 
 -- a call that gives out none
 pub leaving-keeps : (s : State) → Invariant s → (others : List Live) (r : Option Refusal) (changed : Arena) →
-    (r ≡ none → Invariant (state_of changed s.bytes others)) → Invariant (leaving s (answered r s.arena changed) others)
+    (r ≡ None → Invariant (state_of changed s.bytes others)) → Invariant (leaving s (answered r s.arena changed) others)
 unfolding answered if_done
-leaving-keeps s inv others (some r) changed h = inv
-leaving-keeps s inv others none changed h = h refl
+leaving-keeps s inv others (Some r) changed h = inv
+leaving-keeps s inv others None changed h = h refl
 
 -- a call that names a block
-good-chosen : {h : Head} {cs : List Chunk} {bytes : List ℕ} {spaces : List Space} (place : ℕ) {c : Chosen Space} → choose spaces place ≡ some c →
+good-chosen : {h : Head} {cs : List Chunk} {bytes : List ℕ} {spaces : List Space} (place : ℕ) {c : Chosen Space} → choose spaces place ≡ Some c →
     Good h cs bytes spaces → Good h cs bytes (c.one ∷ c.others)
 good-chosen {h} {cs} {bytes} {spaces} place e g =
     record {
@@ -92,5 +92,5 @@ block-keeps s inv place act h =
 
     go : (o : Option (Chosen Space)) → choose inv.spaces place ≡ o →
         Invariant (on_chosen (Option.map (λ (c : Chosen Space). chosen_of c.one.live (lives c.others)) o) act s)
-    go none e = inv
-    go (some c) e = h c.one c.others (good-chosen place e inv.good)
+    go None e = inv
+    go (Some c) e = h c.one c.others (good-chosen place e inv.good)

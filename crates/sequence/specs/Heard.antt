@@ -1,7 +1,6 @@
 -- What "not refused otherwise" leaves out, so that no arena meets demand 3 by refusing: in every state of every sequence a call that asks for what document
 -- 01 allows gives a block or answers ROOM, and a call that only ends or lends a live block is done.
-use Rattle.std.specs.Prelude.{ℕ, ◌≤◌, ◌≡◌, true}
-use Rattle.std.proofs.Math.Option.{Option, none, some}
+use Rattle.std.specs.Prelude.{ℕ, ◌≤◌, ◌≡◌, true, Option, None, Some}
 use Rattle.arena.specs.declared.Arena.{Arena}
 use Rattle.arena.specs.declared.Answer.TheVariants.{Done}
 use Rattle.arena.specs.Numbers.{most}
@@ -27,8 +26,8 @@ pub record Heard (a : Arena) (lent : ℕ) : Type 0 where
 
 -- a block without a token has nothing to cancel
 abbrev pub CancelDone : Arena → ℕ → Option Token → Type 0
-CancelDone a offset none = Unit {0}
-CancelDone a offset (some token) = (cancel_of a offset token).answer ≡ Done
+CancelDone a offset None = Unit {0}
+CancelDone a offset (Some token) = (cancel_of a offset token).answer ≡ Done
 
 pub record HeardOfBlock (a : Arena) (lent : ℕ) (b : Live) : Type 0 where
   pub of_grow : (new new_align : ℕ) → Allowed new new_align → b.size ≤ new →

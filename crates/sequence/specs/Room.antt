@@ -1,8 +1,7 @@
 -- Demand 3: "a call needing new room and not refused otherwise answers "no room" exactly when neither the current chunk nor any rung of the
 -- sizing ladder can take the request".
-use Rattle.std.specs.Prelude.{ℕ, ◌≤◌, ◌<◌, ◌≡◌, ◌⊎◌, ◌↔◌}
+use Rattle.std.specs.Prelude.{ℕ, ◌≤◌, ◌<◌, ◌≡◌, ◌⊎◌, ◌↔◌, Some}
 use Rattle.std.specs.Int.{◌∣◌}
-use Rattle.std.proofs.Math.Option.{some}
 use Rattle.arena.specs.declared.Arena.{Arena}
 use Rattle.arena.specs.declared.Chunk.{Chunk}
 use Rattle.arena.specs.Record.{held_of}
@@ -24,17 +23,17 @@ number_given (Refused r) = number_of r
 
 -- "the current chunk can take the request", by the rule of allocate
 abbrev pub CurrentTakes : Arena → ℕ → ℕ → Type 0
-CurrentTakes a size align = (t : Taken) × (current_gives a.head.minimum (held_of a) size align ≡ some t)
+CurrentTakes a size align = (t : Taken) × (current_gives a.head.minimum (held_of a) size align ≡ Some t)
 
 -- "when either way, in place or afresh, fits in it"
 abbrev pub CurrentGrows : Arena → ℕ → ℕ → ℕ → ℕ → ℕ → Type 0
 CurrentGrows a offset old old_align new new_align =
-    ((t : Taken) × (grown_in_place a.head.minimum (held_of a) offset old old_align new new_align ≡ some t)) ⊎ CurrentTakes a new new_align
+    ((t : Taken) × (grown_in_place a.head.minimum (held_of a) offset old old_align new new_align ≡ Some t)) ⊎ CurrentTakes a new new_align
 
 -- "any rung of the sizing ladder can take the request": some rung is served
 abbrev pub RungTakes : Arena → ℕ → ℕ → Type 0
 RungTakes a size align =
-    (base : ℕ) × (c : Chunk) × Rung a.head (held_of a) size base × (rung_chunk a.head (held_of a) size align base ≡ some c)
+    (base : ℕ) × (c : Chunk) × Rung a.head (held_of a) size base × (rung_chunk a.head (held_of a) size align base ≡ Some c)
 
 -- "not refused otherwise": the call gives a block, or answers ROOM, which is number 8
 abbrev pub NotRefusedOtherwise : Given → Type 0

@@ -1,6 +1,5 @@
 // Allocate with a token, and cancel (`RewindGuard` in the Rust): a token says what the arena was before its block.
-ghost use Rattle.std.specs.Prelude.{◌≡◌, true, ◌≤◌, length};
-ghost use Rattle.std.proofs.Math.Option.{none, some};
+ghost use Rattle.std.specs.Prelude.{◌≡◌, true, ◌≤◌, length, None, Some};
 ghost use Rattle.arena.specs.Numbers.{places};
 ghost use Rattle.arena.specs.Record.{chunks_of, record_of, held_of, holding};
 ghost use Rattle.arena.specs.Sound.{sound_of};
@@ -78,7 +77,7 @@ pub fn allocate_with_token_placed<'a>(
 
 // The record goes back as it came.
 fn refused_token(a: Arena, r: Refusal) -> TokenAllocation
-    ensures { result ≡ with_token (given (some r) a none) (token_for (held_of a)) }
+    ensures { result ≡ with_token (given (Some r) a None) (token_for (held_of a)) }
 {
     TokenAllocation {
         answer: Given::Refused(r),

@@ -1,7 +1,7 @@
 -- `calls::allocate::allocate_in_full` meets its contract: of a sound record in its own region, only the size and the alignment are left to test, and then
 -- the current chunk gives the block, or else the ladder's.
 -- Assumes nothing.
-use mathlib.Core.Option.{none}
+use Rattle.std.specs.Prelude.{None}
 use mathlib.Core.Path.{refl, sym, ◌∙◌, ap}
 use Rattle.rounding.proofs.Tests.{taken_false, left-true}
 use Rattle.arena.specs.Record.{record_of, held_of}
@@ -56,7 +56,7 @@ returns-in_default c =
     let full = fast-full _ (sym c.in_default.is ∙ c.current_gives.ensures) in
     c.placed_slow.ensures
     ∙ sym
-    (ap (given none a)
+    (ap (given None a)
     (from-ladder a.head (held_of a) c.args.size c.args.align (current-lacks a.head.minimum (held_of a) c.args.size c.args.align full)))
     ∙ sym (allocate-works a _ c.args.size c.args.align refl t)
 

@@ -1,7 +1,7 @@
 -- `calls::allocate::placed_slow` meets its contract: the ladder's chunk, and then what that chunk gives, are the definition's two stages.
 -- Assumes nothing.
 use native.Mathlib.Omega.{arith}
-use mathlib.Core.Option.{some}
+use Rattle.std.specs.Prelude.{Some}
 use mathlib.Core.Path.{◌≡◌, sym, ◌∙◌, ap}
 use Rattle.arena.specs.Record.{record_of, chunks_of, held_of}
 use Rattle.arena.specs.Ladder.{ladder}
@@ -34,14 +34,14 @@ chunk_gives-requires c = tested-bounds c.requires
 
 pub returns-in_default-chunk_gives : goal.returns-in_default-chunk_gives
 returns-in_default-chunk_gives c =
-    let new-chunk : ladder c.args.h (chunks_of c.args.starts.now c.args.sizes.now c.args.pointers.now c.args.h.count) c.args.size c.args.align ≡ some c.in-Taken.c = chunk-taken _ (sym c.in-Taken.is ∙ c.climb.ensures) in
+    let new-chunk : ladder c.args.h (chunks_of c.args.starts.now c.args.sizes.now c.args.pointers.now c.args.h.count) c.args.size c.args.align ≡ Some c.in-Taken.c = chunk-taken _ (sym c.in-Taken.is ∙ c.climb.ensures) in
     let a = record_of c.args.h c.args.starts.now c.args.sizes.now c.args.pointers.now in
     let full = fast-full _ (sym c.in_default-chunk_gives.is ∙ c.chunk_gives.ensures) in
     placed-nowhere a c.nowhere-in_default-chunk_gives.ensures (new-chunk-gives a.head.minimum _ c.args.size c.args.align (held_of a) new-chunk full)
 
 pub returns : goal.returns
 returns c =
-    let new-chunk : ladder c.args.h (chunks_of c.args.starts.now c.args.sizes.now c.args.pointers.now c.args.h.count) c.args.size c.args.align ≡ some c.in-Taken.c = chunk-taken _ (sym c.in-Taken.is ∙ c.climb.ensures) in
+    let new-chunk : ladder c.args.h (chunks_of c.args.starts.now c.args.sizes.now c.args.pointers.now c.args.h.count) c.args.size c.args.align ≡ Some c.in-Taken.c = chunk-taken _ (sym c.in-Taken.is ∙ c.climb.ensures) in
     let a = record_of c.args.h c.args.starts.now c.args.sizes.now c.args.pointers.now in
     let room = fast-room _ (sym c.in-Room.is ∙ c.chunk_gives.ensures) in
     let rung = ladder-served a.head (held_of a) c.args.size c.args.align new-chunk in

@@ -3,7 +3,7 @@
 use Prim.Native.Nat.{ℕ, ◌≤◌}
 use mathlib.Core.Bool.{Bool, true, false, not, ◌||◌}
 use mathlib.Core.List.{List, [], ◌∷◌}
-use mathlib.Core.Option.{none, some}
+use Rattle.std.specs.Prelude.{None, Some}
 use mathlib.Core.Path.{◌≡◌, sym, ◌∙◌, ap}
 use lib.Dec.{ltb}
 use borrow.Author.Tests.{lt-ltb, le-ltb}
@@ -29,28 +29,28 @@ module _ (a : Arena) (offset old old_align new new_align : ℕ) (backwards : Boo
   abbrev from_align : List Test
   from_align = aligns_test old_align new_align ∷ from_block
 
-  by_size : (ltb most old || ltb most new) ≡ true → refused_by (change_tests a offset old old_align new new_align backwards) ≡ some Size
+  by_size : (ltb most old || ltb most new) ≡ true → refused_by (change_tests a offset old old_align new new_align backwards) ≡ Some Size
   by_size e = refused-now (sizes_test old new) from_align e
 
   past-size : old ≤ most → new ≤ most → refused_by (change_tests a offset old old_align new new_align backwards) ≡ refused_by from_align
   past-size l m = refused-later (sizes_test old new) from_align (or-neither (le-ltb most old l) (le-ltb most new m))
 
   by-align : old ≤ most → new ≤ most → (not (allowed_align old_align) || not (allowed_align new_align)) ≡ true →
-      refused_by (change_tests a offset old old_align new new_align backwards) ≡ some Align
+      refused_by (change_tests a offset old old_align new new_align backwards) ≡ Some Align
   by-align l m e = past-size l m ∙ refused-now (aligns_test old_align new_align) from_block e
 
   past-align : old ≤ most → new ≤ most → allowed_align old_align ≡ true → allowed_align new_align ≡ true →
       refused_by (change_tests a offset old old_align new new_align backwards) ≡ refused_by from_block
   past-align l m p q = past-size l m ∙ refused-later (aligns_test old_align new_align) from_block (or-neither (true-not p) (true-not q))
 
-  by-block : acceptable (held_of a) offset old old_align ≡ false → refused_by from_block ≡ some Block
+  by-block : acceptable (held_of a) offset old old_align ≡ false → refused_by from_block ≡ Some Block
   by-block e = refused-now (block_test (held_of a) offset old old_align) (test Direction backwards ∷ []) (false-not e)
 
-  by-direction : acceptable (held_of a) offset old old_align ≡ true → backwards ≡ true → refused_by from_block ≡ some Direction
+  by-direction : acceptable (held_of a) offset old old_align ≡ true → backwards ≡ true → refused_by from_block ≡ Some Direction
   by-direction e b =
       refused-later (block_test (held_of a) offset old old_align) (test Direction backwards ∷ []) (true-not e) ∙ refused-now (test Direction backwards) [] b
 
-  by-none : acceptable (held_of a) offset old old_align ≡ true → backwards ≡ false → refused_by from_block ≡ none
+  by-none : acceptable (held_of a) offset old old_align ≡ true → backwards ≡ false → refused_by from_block ≡ None
   by-none e b = none-applies from_block (true-not e, (b, tt))
 
 pub returns-then-old-gt-MOST : goal.returns-then-old-gt-MOST

@@ -2,7 +2,7 @@
 -- Assumes nothing.
 use Prim.Native.Nat.{ℕ}
 use native.Mathlib.Omega.{arith}
-use mathlib.Core.Option.{none}
+use Rattle.std.specs.Prelude.{None}
 use mathlib.Core.Path.{◌≡◌, sym, ◌∙◌, ap}
 use lib.Dec.{ltb}
 use lib.ListN.{length}
@@ -43,7 +43,7 @@ returns-in-Refused c =
 pub grown_block-got-requires : goal.grown_block-got-requires
 grown_block-got-requires c =
     let own : Arena = record_of c.args.h c.args.starts.now c.args.sizes.now c.args.pointers.now in
-    let passed : (let s = c.args in refused_by (grow_tests own (length s.region.now) s.offset s.old s.old_align s.new s.new_align) ≡ none) = let s = c.args in
+    let passed : (let s = c.args in refused_by (grow_tests own (length s.region.now) s.offset s.old s.old_align s.new s.new_align) ≡ None) = let s = c.args in
     passed-before (lent_tests own (length s.region.now))
     (change_tests own s.offset s.old s.old_align s.new s.new_align (ltb s.new s.old))
     (lent-own own c.requires.0 c.requires.1)
@@ -55,7 +55,7 @@ pub returns-in_default-answer : goal.returns-in_default-answer
 unfolding grow_bytes after_given grow_of
 returns-in_default-answer c =
     let own : Arena = record_of c.args.h c.args.starts.now c.args.sizes.now c.args.pointers.now in
-    let passed : (let s = c.args in refused_by (grow_tests own (length s.region.now) s.offset s.old s.old_align s.new s.new_align) ≡ none) = let s = c.args in
+    let passed : (let s = c.args in refused_by (grow_tests own (length s.region.now) s.offset s.old s.old_align s.new s.new_align) ≡ None) = let s = c.args in
     passed-before (lent_tests own (length s.region.now))
     (change_tests own s.offset s.old s.old_align s.new s.new_align (ltb s.new s.old))
     (lent-own own c.requires.0 c.requires.1)
@@ -74,7 +74,7 @@ pub carry-requires : goal.carry-requires
 unfolding grow_of
 carry-requires c =
     let own : Arena = record_of c.args.h c.args.starts.now c.args.sizes.now c.args.pointers.now in
-    let passed : (let s = c.args in refused_by (grow_tests own (length s.region.now) s.offset s.old s.old_align s.new s.new_align) ≡ none) = let s = c.args in
+    let passed : (let s = c.args in refused_by (grow_tests own (length s.region.now) s.offset s.old s.old_align s.new s.new_align) ≡ None) = let s = c.args in
     passed-before (lent_tests own (length s.region.now))
     (change_tests own s.offset s.old s.old_align s.new s.new_align (ltb s.new s.old))
     (lent-own own c.requires.0 c.requires.1)
@@ -93,7 +93,7 @@ pub returns : goal.returns
 unfolding grow_bytes after_given grow_of
 returns c =
     let own : Arena = record_of c.args.h c.args.starts.now c.args.sizes.now c.args.pointers.now in
-    let passed : (let s = c.args in refused_by (grow_tests own (length s.region.now) s.offset s.old s.old_align s.new s.new_align) ≡ none) = let s = c.args in
+    let passed : (let s = c.args in refused_by (grow_tests own (length s.region.now) s.offset s.old s.old_align s.new s.new_align) ≡ None) = let s = c.args in
     passed-before (lent_tests own (length s.region.now))
     (change_tests own s.offset s.old s.old_align s.new s.new_align (ltb s.new s.old))
     (lent-own own c.requires.0 c.requires.1)

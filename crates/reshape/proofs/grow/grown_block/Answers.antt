@@ -1,5 +1,5 @@
 -- `reshape::grow::grown_block` meets its contract: the pointer in place moves, or else the block is a fresh one. Assumes nothing.
-use mathlib.Core.Option.{none}
+use Rattle.std.specs.Prelude.{None}
 use mathlib.Core.Path.{refl, sym, ◌∙◌, ap}
 use Rattle.arena.specs.Record.{record_of, held_of}
 use Rattle.calls.specs.Allocate.{given}
@@ -19,7 +19,7 @@ returns-in_default c =
     c.allocate_in_full.ensures
     ∙ allocate-works a _ c.args.new c.args.new_align refl c.requires.request
     ∙ sym
-    (ap (given none a)
+    (ap (given None a)
     (grows-afresh a.head (held_of a) c.args.offset c.args.old c.args.old_align c.args.new c.args.new_align
     (grown-lacks a.head.minimum (held_of a) c.args.offset c.args.old c.args.old_align c.args.new c.args.new_align full)))
 

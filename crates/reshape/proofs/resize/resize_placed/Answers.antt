@@ -3,7 +3,7 @@
 use Prim.Native.Nat.{ℕ, ◌<◌, min}
 use native.Mathlib.Omega.{arith}
 use native.Mathlib.Nat.{min-le_left, min-le_right}
-use mathlib.Core.Option.{none}
+use Rattle.std.specs.Prelude.{None}
 use mathlib.Core.Path.{◌≡◌, sym, ◌∙◌, ap}
 use lib.ListN.{length}
 use Rattle.arena.specs.declared.Arena.{Arena}
@@ -58,7 +58,7 @@ returns-in-Refused c =
 pub resized_block-got-requires : goal.resized_block-got-requires
 resized_block-got-requires c =
     let own : Arena = record_of c.args.h c.args.starts.now c.args.sizes.now c.args.pointers.now in
-    let passed : (let s = c.args in refused_by (resize_tests own (length s.region.now) s.offset s.old s.align s.new) ≡ none) = let s = c.args in
+    let passed : (let s = c.args in refused_by (resize_tests own (length s.region.now) s.offset s.old s.align s.new) ≡ None) = let s = c.args in
     passed-before (lent_tests own (length s.region.now)) (resize_rest own s.offset s.old s.align s.new) (lent-own own c.requires.0 c.requires.1)
     ∙ as-change own s.offset s.old s.align s.new c.if-old-eq0.false
     ∙ tests-pass _ (sym c.in_default.is ∙ c.change_answer.ensures) in
@@ -73,7 +73,7 @@ pub returns-in_default-answer : goal.returns-in_default-answer
 unfolding resize_bytes after_given resize_of
 returns-in_default-answer c =
     let own : Arena = record_of c.args.h c.args.starts.now c.args.sizes.now c.args.pointers.now in
-    let passed : (let s = c.args in refused_by (resize_tests own (length s.region.now) s.offset s.old s.align s.new) ≡ none) = let s = c.args in
+    let passed : (let s = c.args in refused_by (resize_tests own (length s.region.now) s.offset s.old s.align s.new) ≡ None) = let s = c.args in
     passed-before (lent_tests own (length s.region.now)) (resize_rest own s.offset s.old s.align s.new) (lent-own own c.requires.0 c.requires.1)
     ∙ as-change own s.offset s.old s.align s.new c.if-old-eq0.false
     ∙ tests-pass _ (sym c.in_default.is ∙ c.change_answer.ensures) in
@@ -89,7 +89,7 @@ pub carry-requires : goal.carry-requires
 unfolding resize_of
 carry-requires c =
     let own : Arena = record_of c.args.h c.args.starts.now c.args.sizes.now c.args.pointers.now in
-    let passed : (let s = c.args in refused_by (resize_tests own (length s.region.now) s.offset s.old s.align s.new) ≡ none) = let s = c.args in
+    let passed : (let s = c.args in refused_by (resize_tests own (length s.region.now) s.offset s.old s.align s.new) ≡ None) = let s = c.args in
     passed-before (lent_tests own (length s.region.now)) (resize_rest own s.offset s.old s.align s.new) (lent-own own c.requires.0 c.requires.1)
     ∙ as-change own s.offset s.old s.align s.new c.if-old-eq0.false
     ∙ tests-pass _ (sym c.in_default.is ∙ c.change_answer.ensures) in
@@ -108,7 +108,7 @@ pub returns : goal.returns
 unfolding resize_bytes after_given resize_of
 returns c =
     let own : Arena = record_of c.args.h c.args.starts.now c.args.sizes.now c.args.pointers.now in
-    let passed : (let s = c.args in refused_by (resize_tests own (length s.region.now) s.offset s.old s.align s.new) ≡ none) = let s = c.args in
+    let passed : (let s = c.args in refused_by (resize_tests own (length s.region.now) s.offset s.old s.align s.new) ≡ None) = let s = c.args in
     passed-before (lent_tests own (length s.region.now)) (resize_rest own s.offset s.old s.align s.new) (lent-own own c.requires.0 c.requires.1)
     ∙ as-change own s.offset s.old s.align s.new c.if-old-eq0.false
     ∙ tests-pass _ (sym c.in_default.is ∙ c.change_answer.ensures) in

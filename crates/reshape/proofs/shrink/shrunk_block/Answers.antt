@@ -1,7 +1,7 @@
 -- `reshape::shrink::shrunk_block` meets its contract: in place by what is given up, at the same offset, or afresh. Assumes nothing.
 use Prim.Native.Nat.{ℕ, ◌-◌}
 use native.Mathlib.Omega.{arith}
-use mathlib.Core.Option.{none}
+use Rattle.std.specs.Prelude.{None}
 use mathlib.Core.Path.{◌≡◌, refl, sym, ◌∙◌, ap}
 use Rattle.rounding.specs.Round.{round_down, one_bit}
 use Rattle.rounding.proofs.Powers.{power-one-bit, power-max}
@@ -35,8 +35,8 @@ returns-then-new_align-old_align c =
     let up : c.down_to_power-d.result ≡ given_up own.head.minimum s.old s.new s.new_align =
     c.down_to_power-d.ensures ∙ ap (round_down (s.old - s.new)) c.larger.ensures in
     c.shrunk_in_place.ensures
-    ∙ ap (λ (d : ℕ). given none own (shrunk_in_place (held_of own) s.offset s.old d)) up
-    ∙ sym (ap (given none own) (shrinks-in-place own.head (held_of own) s.offset s.old s.old_align s.new s.new_align c.if-new_align-old_align.true))
+    ∙ ap (λ (d : ℕ). given None own (shrunk_in_place (held_of own) s.offset s.old d)) up
+    ∙ sym (ap (given None own) (shrinks-in-place own.head (held_of own) s.offset s.old s.old_align s.new s.new_align c.if-new_align-old_align.true))
 
 pub is_multiple_of_power-requires : goal.is_multiple_of_power-requires
 is_multiple_of_power-requires c = power-one-bit (align-open _ c.requires.request.align_allowed).power
@@ -59,6 +59,6 @@ returns c =
     c.allocate_in_full.ensures
     ∙ allocate-works own _ s.new s.new_align refl c.requires.request
     ∙ sym
-    (ap (given none own)
+    (ap (given None own)
     (shrinks-afresh own.head (held_of own) s.offset s.old s.old_align s.new s.new_align c.if-new_align-old_align.false
     (sym c.is_multiple_of_power.ensures ∙ c.if-is_multiple_of_power.false)))

@@ -1,4 +1,4 @@
--- `arena::sound::unused_bits` meets its contract. The loop's invariant: the bits are zero exactly where each place passed is zero in each column. The measure is
+-- `arena::lent::Lent::unused_bits` meets its contract. The loop's invariant: the bits are zero exactly where each place passed is zero in each column. The measure is
 -- what is left of the table. Assumes nothing.
 use Prim.Native.Nat.{ℕ, ◌+◌, ◌<◌}
 use native.Mathlib.Omega.{arith}
@@ -11,10 +11,10 @@ use lib.Bits.{bit_or, or_add_and, and_le_l, and_le_r}
 use lib.ListN.{length, get_or}
 use Rattle.rounding.proofs.Tests.{same, and_left, and_right, and_both}
 use Rattle.arena.specs.Numbers.{places}
-use Rattle.arena.specs.Sound.{unused_zero}
+use Rattle.arena.specs.Sound.{unused_zero, table_sound}
 use Rattle.arena.proofs.Soundness.{unused-open, unused-shut, unused-at, unused-by}
-use Rattle.arena.proofs.sound.unused_bits.Invariants.{Zeros, Gathered}
-use Rattle.arena.proofs.sound.unused_bits.Goals as goal
+use Rattle.arena.proofs.lent.Lent.unused_bits.Invariants.{Zeros, Gathered}
+use Rattle.arena.proofs.lent.Lent.unused_bits.Goals as goal
 
 zeros-unused : (count : ℕ) (column : List ℕ) → length column ≡ places → Zeros count places column → unused_zero count column ≡ true
 zeros-unused count column long h = unused-shut count column (unused-by count column long h)
@@ -66,23 +66,22 @@ gathers count starts sizes pointers bits i l inv =
 pub loop-i-preserved : goal.loop-i-preserved
 loop-i-preserved c =
     let loop = c.loop-i in
-    let a = c.args in
-    gathers a.count a.starts.now a.sizes.now a.pointers.now loop.bits loop.i c.loop-i-test.true loop.invariant
+    gathers c.args.self.now.head.count c.args.self.now.starts.now c.args.self.now.sizes.now c.args.self.now.pointers.now loop.bits loop.i c.loop-i-test.true loop.invariant
 
 pub returns : goal.returns
+unfolding table_sound
 returns c =
-    let a = c.args in
-    let n = a.count in
+    let n = c.args.self.now.head.count in
     let loop = c.loop-i in
     let all : loop.i ≡ places = omega arith in
     same
     (λ t.
     let (s, (z, p)) = loop.invariant.all-zero (eqb-true loop.bits 0 t) in
-    and_both (zeros-unused n a.starts.now c.starts-1.given (rw all at s))
-    (and_both (zeros-unused n a.sizes.now c.sizes-1.given (rw all at z))
-    (zeros-unused n a.pointers.now c.pointers-1.given (rw all at p))))
+    and_both (zeros-unused n c.args.self.now.starts.now c.starts-1.given (rw all at s))
+    (and_both (zeros-unused n c.args.self.now.sizes.now c.sizes-1.given (rw all at z))
+    (zeros-unused n c.args.self.now.pointers.now c.pointers-1.given (rw all at p))))
     (λ t.
-    let rest = and_right (unused_zero n a.starts.now) _ t in
+    let rest = and_right (unused_zero n c.args.self.now.starts.now) _ t in
     eq-eqb loop.bits 0
-    (loop.invariant.zero-all (unused-zeros n loop.i a.starts.now (and_left _ _ t)) (unused-zeros n loop.i a.sizes.now (and_left _ _ rest))
-    (unused-zeros n loop.i a.pointers.now (and_right (unused_zero n a.sizes.now) _ rest))))
+    (loop.invariant.zero-all (unused-zeros n loop.i c.args.self.now.starts.now (and_left _ _ t)) (unused-zeros n loop.i c.args.self.now.sizes.now (and_left _ _ rest))
+    (unused-zeros n loop.i c.args.self.now.pointers.now (and_right (unused_zero n c.args.self.now.sizes.now) _ rest))))
