@@ -39,6 +39,6 @@ in_order (t ∷ []) = true
 in_order (t ∷ (u ∷ ts)) = ltb (number_of t.refusal) (number_of u.refusal) && in_order (u ∷ ts)
 
 -- "A refusal returns the record it was handed": else the call is done, and the record is the changed one
-unfoldable pub answered : Option Refusal → Arena → Arena → Outcome
+unfoldable pub answered : Option Refusal → Arena → Arena → Outcome ⊤
 answered (Some r) handed changed = record { answer = Err r; arena = handed }
 answered None handed changed = record { answer = Ok tt; arena = changed }

@@ -100,7 +100,7 @@ impl Arena {
     }
 
     // A call that changes the record so and that nothing but its soundness is tested for.
-    pub fn changed_if_sound(self, change: Change) -> Outcome
+    pub fn changed_if_sound(self, change: Change) -> Outcome<()>
         ensures { result ≡ answered (refused_by (state_test self ∷ [])) self (changed_by change self) }
     {
         if !is_sound(&self.lent()) {

@@ -35,7 +35,7 @@ pub fn with_chunk(a: Arena, c: Chunk) -> Arena
     out
 }
 
-fn refused_creation(r: Refusal) -> Outcome
+fn refused_creation(r: Refusal) -> Outcome<()>
     ensures { result ≡ refused_creation r }
 {
     let none = emptied(Head {
@@ -53,7 +53,7 @@ fn refused_creation(r: Refusal) -> Outcome
 
 impl Arena {
     // The region is told by its length: creation reads none of its bytes and writes none.
-    pub fn with_min_align_and_capacity(region: usize, minimum: usize, capacity: usize) -> Outcome
+    pub fn with_min_align_and_capacity(region: usize, minimum: usize, capacity: usize) -> Outcome<()>
         ensures { result ≡ created_of region minimum capacity }
     {
         if Arena::MOST < region {

@@ -65,10 +65,10 @@ impl Refusal {
     }
 }
 
-// What a call answers that gives out no block, and the record after it.
+// What a call answers, and the record after it.
 #[derive(Clone, Copy)]
-pub struct Outcome {
-    pub answer: Result<(), Refusal>,
+pub struct Outcome<T> {
+    pub answer: Result<T, Refusal>,
     pub arena: Arena,
 }
 

@@ -39,7 +39,7 @@ pub fn keep_current(
 }
 
 impl Arena {
-    pub fn reset(self) -> Outcome
+    pub fn reset(self) -> Outcome<()>
         ensures { result ≡ reset_of self }
     {
         self.changed_if_sound(Change::Kept)
