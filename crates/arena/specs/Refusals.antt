@@ -15,9 +15,16 @@ number_of Direction = 6
 number_of Token = 7
 number_of Room = 8
 
--- what a call answers that gives out no block
+-- what a call answers that gives out no block, and one that does: its offset
 abbrev pub Answer : Type 0
 Answer = Result ⊤ Refusal
+
+abbrev pub Given : Type 0
+Given = Result ℕ Refusal
+
+-- the same with the record after it
+abbrev pub Allocation : Type 0
+Allocation = Outcome ℕ
 
 -- a refusal, and whether it applies to the call at hand
 pub record Test : Type 0 where

@@ -72,6 +72,18 @@ pub struct Outcome<T> {
     pub arena: Arena,
 }
 
+impl<T> Outcome<T> {
+    // The record goes back as it came.
+    pub fn refused(arena: Arena, r: Refusal) -> Self
+        ensures { result ≡ record { answer = Err r; arena = arena } }
+    {
+        Outcome {
+            answer: Err(r),
+            arena,
+        }
+    }
+}
+
 impl Arena {
     // The Rust footer's place after a chunk's end: reserved, never read or written.
     pub const FOOTER: usize = 48;

@@ -1,5 +1,5 @@
 // Whether a record is sound. Any 64-bit numbers may stand in it, so nothing is added here before it has been tested.
-ghost use Rattle.std.specs.Prelude.{◌≡◌, true, ◌&&◌, ◌+◌, ◌<◌, ◌≤◌, ◌^◌};
+ghost use Rattle.std.specs.Prelude.{◌≡◌, IfSome, IfNone, Bool, true, false, ◌&&◌, ◌+◌, ◌<◌, ◌≤◌, ◌^◌};
 ghost use Rattle.rounding.specs.Every.{every};
 ghost use Rattle.rounding.specs.Round.{one_bit};
 ghost use Rattle.arena.specs.Numbers.{places};
@@ -14,7 +14,7 @@ ghost use Rattle.arena.specs.Sound.{
   apart,
   sound_of,
 };
-ghost use Rattle.arena.specs.Inner.{lent_of, Ready, ascending};
+ghost use Rattle.arena.specs.Inner.{lent_of, current_of, Ready, ascending};
 
 use crate::lent::Lent;
 use crate::{Arena, Chunk, Head};
@@ -179,4 +179,42 @@ pub fn is_sound(a: &Lent) -> bool
         return false;
     }
     are_apart(a)
+}
+
+// A lent record that is known to be sound.
+#[derive(Clone, Copy)]
+pub struct Sound<'a> {
+    pub lent: Lent<'a>,
+    ghost sound: { sound_of (lent_of lent) ≡ true },
+}
+
+impl<'a> Sound<'a> {
+    // The chunk taken last, if any is held.
+    pub fn current(&self) -> Option<Chunk>
+        ensures { result ≡ current_of (held_of (lent_of self.now.lent)) }
+    {
+        self.lent.current()
+    }
+}
+
+impl<'a> Lent<'a> {
+    // The same record, where it is sound.
+    pub fn sound(self) -> Option<Sound<'a>>
+        ensures unsound { IfNone result (sound_of (lent_of self.entry) ≡ false) }
+        ensures same { IfSome result (λ s. s.lent ≡ self.entry) }
+    {
+        if !is_sound(&self) {
+            return None;
+        }
+        Some(Sound { lent: self })
+    }
+}
+
+impl Arena {
+    pub fn sound(&self) -> Option<Sound<'_>>
+        ensures unsound { IfNone result (sound_of self.now ≡ false) }
+        ensures same { IfSome result (λ s. lent_of s.lent ≡ self.now) }
+    {
+        self.lent().sound()
+    }
 }

@@ -5,9 +5,7 @@ use Rattle.std.specs.Prelude.{Option, None, Some}
 use mathlib.Core.Path.{◌≡◌, sym, ◌∙◌, ap}
 use Rattle.arena.specs.declared.Arena.{Arena}
 use Rattle.arena.specs.declared.Refusal.{Refusal}
-use Rattle.arena.specs.Refusals.{Test, refused_by}
-use Rattle.calls.specs.declared.Given.{Given}
-use Rattle.calls.specs.declared.Allocation.{Allocation}
+use Rattle.arena.specs.Refusals.{Test, refused_by, Allocation, Given}
 use Rattle.calls.specs.Allocate.{Taken, given}
 use Rattle.calls.specs.Bytes.{after_given}
 use Rattle.calls.proofs.Testing.{refused-before, passed-before}

@@ -3,7 +3,7 @@
 use Prim.Native.Nat.{ℕ, ◌+◌, ◌≤◌}
 use native.Mathlib.Omega.{arith}
 use mathlib.Core.Bool.{true}
-use Rattle.std.specs.Prelude.{None}
+use Rattle.std.specs.Prelude.{None, Ok}
 use mathlib.Core.Path.{◌≡◌}
 use borrow.Author.Tests.{eq-eqb}
 use Rattle.rounding.proofs.Tests.{true-not}
@@ -13,7 +13,6 @@ use Rattle.arena.specs.Refusals.{refused_by}
 use Rattle.arena.specs.Sound.{sound_of}
 use Rattle.arena.proofs.Refusing.{none-applies}
 use Rattle.arena.proofs.Soundness.{align-shut, sound-shut}
-use Rattle.calls.specs.declared.Given.TheVariants.{At}
 use Rattle.calls.specs.Grow.{grow_in, grow_tests, grow_of}
 use Rattle.calls.specs.Shrink.{shrink_in, shrink_tests, shrink_of}
 use Rattle.calls.specs.Inner.{Tested, GrowTested, ShrinkTested, lent_tests}
@@ -45,7 +44,7 @@ pub record BothInside (lent offset old to new : ℕ) : Type 0 where
 
 -- of any record and any numbers
 module _ (a : Arena) (lent offset old old_align new new_align : ℕ) {to : ℕ} where
-  pub grow-served : (grow_of a lent offset old old_align new new_align).answer ≡ At to → BothInside lent offset old to new × (old ≤ new)
+  pub grow-served : (grow_of a lent offset old old_align new new_align).answer ≡ Ok to → BothInside lent offset old to new × (old ≤ new)
   unfolding grow_of
   grow-served e =
       let found =
@@ -54,7 +53,7 @@ module _ (a : Arena) (lent offset old old_align new new_align : ℕ) {to : ℕ} 
       let is = grow-result a lent offset old old_align new new_align found.passed found.gives in
       (record { source = omega (arith, source-inside ch, ch.request.region); room = omega (arith, is.inside, found.there) }, ch.direction)
 
-  pub shrink-served : (shrink_of a lent offset old old_align new new_align).answer ≡ At to → BothInside lent offset old to new × (new ≤ old)
+  pub shrink-served : (shrink_of a lent offset old old_align new new_align).answer ≡ Ok to → BothInside lent offset old to new × (new ≤ old)
   unfolding shrink_of
   shrink-served e =
       let found =

@@ -18,11 +18,16 @@ use Rattle.arena.specs.declared.Arena.{Arena}
 use Rattle.arena.specs.declared.Chunk.{Chunk}
 use Rattle.arena.specs.Numbers.{most, largest_align, largest_minimum}
 use Rattle.arena.specs.Record.{with_pointer}
+use Rattle.arena.specs.Sound.{allowed_align, sound_of}
 use Rattle.arena.specs.Ladder.{ladder}
 use Rattle.arena.specs.Inner.{moved_to}
 use Rattle.arena.proofs.Soundness.{sound-open, align-open}
 use Rattle.calls.specs.Allocate.{Taken, needed, chunk_gives, current_gives, new_chunk_gives, or_ladder, allocate_in}
 use Rattle.calls.specs.Inner.{current_pointer, Tested}
+
+-- a sound record and a request that was tested
+pub sound-tested : {a : Arena} {size align : ℕ} → sound_of a ≡ true → (size ≤ most) × (allowed_align align ≡ true) → Tested a size align
+sound-tested s r = record { sound = s; size_bound = r.0; align_allowed = r.1 }
 
 -- what the current chunk's arithmetic leans on
 pub tested-bounds : {a : Arena} {size align : ℕ} → Tested a size align →

@@ -4,7 +4,6 @@ pub mod Blocks
 pub mod Cancelling
 pub mod Carrying
 pub mod Carving
-pub mod Cases
 pub mod Changing
 pub mod Freeing
 pub mod Giving

@@ -5,14 +5,13 @@ use native.Mathlib.Nat.{eq-zero-or-pos}
 use native.Mathlib.Omega.{arith}
 use mathlib.Core.Bool.{true}
 use mathlib.Core.Logic.{⊎_elim}
-use Rattle.std.specs.Prelude.{Option, None, Some}
+use Rattle.std.specs.Prelude.{Option, None, Some, Ok}
 use mathlib.Core.Path.{◌≡◌, refl, sym, ◌∙◌}
 use Rattle.arena.specs.declared.Arena.{Arena}
 use Rattle.arena.specs.declared.Refusal.{Refusal}
 use Rattle.arena.specs.Record.{held_of}
 use Rattle.arena.specs.Refusals.{refused_by}
 use Rattle.arena.proofs.Standing.{Standing, sound-standing}
-use Rattle.calls.specs.declared.Given.TheVariants.{At}
 use Rattle.calls.specs.Tests.{acceptable}
 use Rattle.calls.specs.Allocate.{Taken, given, allocate_in, request_tests}
 use Rattle.calls.specs.Grow.{grow_in, grow_tests}
@@ -31,7 +30,7 @@ pub record GivenAt (r : Option Refusal) (o : Option Taken) (to : ℕ) : Type 0 w
   pub gives : o ≡ Some taken
   pub there : taken.offset ≡ to
 
-pub given-at : {to : ℕ} (a : Arena) (r : Option Refusal) (o : Option Taken) → (given r a o).answer ≡ At to → GivenAt r o to
+pub given-at : {to : ℕ} (a : Arena) (r : Option Refusal) (o : Option Taken) → (given r a o).answer ≡ Ok to → GivenAt r o to
 unfolding given
 given-at a (Some x) o e = absurd (let z : ◌≡◌ {A = ℕ} 0 1 = cc in omega arith)
 given-at a None None e = absurd (let z : ◌≡◌ {A = ℕ} 0 1 = cc in omega arith)

@@ -3,25 +3,26 @@
 use Prim.Native.Nat.{ℕ, ◌+◌, ◌≤◌}
 use mathlib.Core.Bool.{Bool, true, false}
 use mathlib.Core.List.{List, [], ◌∷◌, ◌++◌}
-use Rattle.std.specs.Prelude.{Option, None, Some}
+use Rattle.std.specs.Prelude.{Option, None, Some, Err, Ok}
 use Rattle.std.proofs.lemmas.Option.{none-some}
 use Rattle.rounding.proofs.Optional.{some-none}
-use mathlib.Core.Path.{◌≡◌, refl, sym, ◌∙◌}
+use mathlib.Core.Path.{◌≡◌, refl, sym, ◌∙◌, ap}
 use lib.Dec.{eqb}
-use borrow.Author.Tests.{ltb-false, eqb-true, not-false}
+use borrow.Author.Tests.{ltb-false, eqb-true, eq-eqb, ne_eqb, not-false}
+use Rattle.rounding.proofs.Tests.{true-not, false-not}
 use Rattle.arena.specs.declared.Arena.{Arena}
-use Rattle.arena.specs.declared.Answer.TheVariants.{Done, Refused}
 use Rattle.arena.specs.declared.Refusal.{Refusal}
+use Rattle.arena.specs.declared.Refusal.TheVariants.{State, Region}
 use Rattle.arena.specs.Numbers.{most}
 use Rattle.arena.specs.Record.{held_of}
 use Rattle.arena.specs.Refusals.{Test, refused_by}
-use Rattle.arena.specs.Sound.{allowed_align, sound_of}
-use Rattle.arena.proofs.Refusing.{refused-now, refused-later, not-refused}
+use Rattle.arena.specs.Sound.{allowed_align, sound_of, state_test}
+use Rattle.arena.proofs.Refusing.{refused-now, refused-later, none-applies, not-refused}
 use Rattle.arena.proofs.Soundness.{sound-open}
 use Rattle.arena.proofs.Standing.{sound-standing}
-use Rattle.calls.specs.Tests.{acceptable}
+use Rattle.calls.specs.Tests.{region_test, acceptable}
 use Rattle.calls.specs.Write.{lend_answer}
-use Rattle.calls.specs.Inner.{lent_tests, block_tests}
+use Rattle.calls.specs.Inner.{lent_tests, block_tests, first_of}
 use Rattle.calls.proofs.Blocks.{acceptable-lies, lies-inside}
 
 -- a part of the tests, and the rest of them
@@ -51,15 +52,32 @@ passes-both ts us e = go (refused_by ts) refl
     go (Some r) p = absurd (some-none r (sym (refused-before ts us p) ∙ e))
 
 -- the answer says which case holds
-pub tests-refuse : (o : Option Refusal) {r : Refusal} → Refused r ≡ lend_answer o → o ≡ Some r
+pub tests-refuse : (o : Option Refusal) {r : Refusal} → Err r ≡ lend_answer o → o ≡ Some r
 unfolding lend_answer
 tests-refuse (Some x) e = cc
 tests-refuse None e = cc
 
-pub tests-pass : (o : Option Refusal) → Done ≡ lend_answer o → o ≡ None
+pub tests-pass : (o : Option Refusal) → Ok tt ≡ lend_answer o → o ≡ None
 unfolding lend_answer
 tests-pass (Some x) e = cc
 tests-pass None e = refl
+
+-- what the tests of what is lent answer, test by test
+module _ (a : Arena) (lent : ℕ) where
+  pub lent-state : sound_of a ≡ false → first_of (lent_tests a lent) ≡ Err State
+  unfolding lend_answer
+  lent-state e = ap lend_answer (refused-now (state_test a) (region_test a lent ∷ []) (false-not e))
+
+  pub lent-region : sound_of a ≡ true → (lent ≡ a.head.region → ⊥) → first_of (lent_tests a lent) ≡ Err Region
+  unfolding lend_answer
+  lent-region s differs =
+      ap lend_answer
+      (refused-later (state_test a) (region_test a lent ∷ []) (true-not s)
+      ∙ refused-now (region_test a lent) [] (false-not (ne_eqb lent a.head.region differs)))
+
+  pub lent-done : sound_of a ≡ true → lent ≡ a.head.region → first_of (lent_tests a lent) ≡ Ok tt
+  unfolding lend_answer
+  lent-done s e = ap lend_answer (none-applies (lent_tests a lent) (true-not s, (true-not (eq-eqb lent a.head.region e), tt)))
 
 -- a sound record, lent its own region
 pub record Lent (a : Arena) (lent : ℕ) : Type 0 where

@@ -1,5 +1,5 @@
 -- Document 01, "Allocate".
-use Rattle.std.specs.Prelude.{ℕ, ◌-◌, max, Bool, false, ◌&&◌, List, [], ◌∷◌, leb, eqb, Option, None, Some, option_map}
+use Rattle.std.specs.Prelude.{ℕ, ◌-◌, max, Bool, false, ◌&&◌, List, [], ◌∷◌, leb, eqb, Option, None, Some, option_map, Err, Ok}
 use Rattle.rounding.specs.First.{only}
 use Rattle.rounding.specs.Round.{round_down, round_up}
 use Rattle.arena.specs.declared.Head.{Head}
@@ -8,11 +8,9 @@ use Rattle.arena.specs.declared.Chunk.{Chunk}
 use Rattle.arena.specs.declared.Refusal.{Refusal}
 use Rattle.arena.specs.declared.Refusal.TheVariants.{Room}
 use Rattle.arena.specs.Record.{with_pointer, held_of, holding}
-use Rattle.arena.specs.Refusals.{Test, refused_by}
+use Rattle.arena.specs.Refusals.{Test, refused_by, Allocation}
 use Rattle.arena.specs.Sound.{state_test}
 use Rattle.arena.specs.Ladder.{ladder}
-use Rattle.calls.specs.declared.Given.TheVariants.{At, Refused}
-use Rattle.calls.specs.declared.Allocation.{Allocation}
 use Rattle.calls.specs.Tests.{region_test, size_test, align_test}
 
 -- a block's offset, and the held chunks once it is given
@@ -58,9 +56,9 @@ allocate_in h cs size align = or_ladder h cs size align (current_gives h.minimum
 
 -- what a call that gives out a block answers: its refusal, ROOM where "the rules serve nothing", or the block
 unfoldable pub given : Option Refusal → Arena → Option Taken → Allocation
-given (Some r) a taken = record { answer = Refused r; arena = a }
-given None a None = record { answer = Refused Room; arena = a }
-given None a (Some t) = record { answer = At t.offset; arena = holding a.head t.chunks }
+given (Some r) a taken = record { answer = Err r; arena = a }
+given None a None = record { answer = Err Room; arena = a }
+given None a (Some t) = record { answer = Ok t.offset; arena = holding a.head t.chunks }
 
 abbrev pub request_tests : Arena → ℕ → ℕ → ℕ → List Test
 request_tests a lent size align = state_test a ∷ (region_test a lent ∷ (size_test size ∷ (align_test align ∷ [])))

@@ -6,9 +6,8 @@ use Rattle.arena.specs.declared.Arena.{Arena}
 use Rattle.arena.specs.declared.Chunk.{Chunk}
 use Rattle.arena.specs.declared.Refusal.TheVariants.{Direction}
 use Rattle.arena.specs.Record.{with_pointer, held_of}
-use Rattle.arena.specs.Refusals.{Test, test, refused_by}
+use Rattle.arena.specs.Refusals.{Test, test, refused_by, Allocation}
 use Rattle.arena.specs.Sound.{state_test}
-use Rattle.calls.specs.declared.Allocation.{Allocation}
 use Rattle.calls.specs.Bytes.{carried, after_given}
 use Rattle.calls.specs.Tests.{region_test, sizes_test, aligns_test, block_test}
 use Rattle.calls.specs.Allocate.{Taken, at_pointer, allocate_in, given}

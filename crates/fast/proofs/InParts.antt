@@ -4,13 +4,11 @@ use Prim.Native.Nat.{ℕ, ◌-◌, ◌<◌}
 use native.Mathlib.Omega.{arith}
 use mathlib.Core.Bool.{true}
 use mathlib.Core.List.{List, ◌∷◌}
-use Rattle.std.specs.Prelude.{None, Some}
+use Rattle.std.specs.Prelude.{None, Some, Err, Ok, ⊤}
 use mathlib.Core.Path.{◌≡◌, refl, sym, ap, ◌∙◌}
 use lib.ListN.{set}
 use borrow.Author.Tests.{eq-eqb}
 use Rattle.rounding.proofs.Tests.{true-not}
-use Rattle.arena.specs.declared.Answer.{Answer}
-use Rattle.arena.specs.declared.Answer.TheVariants.{Done, Refused}
 use Rattle.arena.specs.declared.Arena.{Arena}
 use Rattle.arena.specs.declared.Head.{Head}
 use Rattle.arena.specs.declared.Outcome.{Outcome}
@@ -18,15 +16,12 @@ use Rattle.arena.specs.declared.Refusal.{Refusal}
 use Rattle.arena.specs.declared.change.Change.TheVariants.{Moved}
 use Rattle.arena.specs.Inner.{changed_by}
 use Rattle.arena.specs.Record.{record_of}
-use Rattle.arena.specs.Refusals.{number_of, refused_by}
+use Rattle.arena.specs.Refusals.{number_of, refused_by, Allocation, Answer, Given}
 use Rattle.arena.specs.Sound.{sound_of, state_test}
 use Rattle.arena.proofs.Changing.{moves}
 use Rattle.arena.proofs.Refusing.{refused-later}
 use Rattle.arena.proofs.Soundness.{sound-open}
-use Rattle.calls.specs.declared.Allocation.{Allocation}
 use Rattle.calls.specs.declared.Ended.{Ended}
-use Rattle.calls.specs.declared.Given.{Given}
-use Rattle.calls.specs.declared.Given.TheVariants.{At, Refused as NONE}
 use Rattle.calls.specs.declared.Placed.{Placed}
 use Rattle.calls.specs.declared.TokenAllocation.{TokenAllocation}
 use Rattle.calls.specs.declared.TokenPlaced.{TokenPlaced}
@@ -61,14 +56,14 @@ module _ (a b : Arena) (read : a ≡ b) where
         made ∙ ap (λ (o : Allocation). o.arena) whole,
       )
 
-  pub ended-in-parts : (call : Arena → Outcome) (got : Ended) {r : Said} {after : Arena} →
+  pub ended-in-parts : (call : Arena → Outcome ⊤) (got : Ended) {r : Said} {after : Arena} →
       EndedBy call a got → r ≡ said_of got.answer → after ≡ changed_by got.change b →
       (r ≡ said_of (call b).answer) × (after ≡ (call b).arena)
   ended-in-parts call got ended told made =
       let whole : record { answer = got.answer; arena = changed_by got.change b } ≡ call b =
       ap (λ (x : Arena). record { answer = got.answer; arena = changed_by got.change x }) (sym read) ∙ ended ∙ ap call read in (
-        told ∙ ap (λ (o : Outcome). said_of o.answer) whole,
-        made ∙ ap (λ (o : Outcome). o.arena) whole,
+        told ∙ ap (λ (o : Outcome ⊤). said_of o.answer) whole,
+        made ∙ ap (λ (o : Outcome ⊤). o.arena) whole,
       )
 
   pub token-in-parts : (call : Arena → TokenAllocation) (got : TokenPlaced) {r : SaidToken} {after : Arena} →
@@ -83,25 +78,25 @@ module _ (a b : Arena) (read : a ≡ b) where
       )
 
   -- the tests of the record and the lent length
-  pub lent-refused : (lent : ℕ) {answer : Answer} {r : Refusal} → answer ≡ first_of (lent_tests a lent) → answer ≡ Refused r → refused_by (lent_tests b lent) ≡ Some r
+  pub lent-refused : (lent : ℕ) {answer : Answer} {r : Refusal} → answer ≡ first_of (lent_tests a lent) → answer ≡ Err r → refused_by (lent_tests b lent) ≡ Some r
   lent-refused lent answered shows =
       tests-refuse _ (sym shows ∙ answered ∙ ap (λ (x : Arena). first_of (lent_tests x lent)) read)
 
-  pub lent-passed : (lent : ℕ) {answer : Answer} → answer ≡ first_of (lent_tests a lent) → answer ≡ Done → Lent b lent
+  pub lent-passed : (lent : ℕ) {answer : Answer} → answer ≡ first_of (lent_tests a lent) → answer ≡ (Ok tt) → Lent b lent
   lent-passed lent answered shows =
       lent-passes b lent (tests-pass _ (sym shows ∙ answered ∙ ap (λ (x : Arena). first_of (lent_tests x lent)) read))
 
 -- a call that moves the current pointer, and changes nothing else
 pub moved-in-parts : (call : Arena → Allocation) {h : Head} (head starts sizes pointers : List ℕ) (p : ℕ) → h ≡ head_of head →
     sound_of (parts_of head starts sizes pointers) ≡ true → (h.count ≡ 0 → ⊥) →
-    PlacedBy call (record_of h starts sizes pointers) (record { answer = At p; change = Moved p }) →
+    PlacedBy call (record_of h starts sizes pointers) (record { answer = Ok p; change = Moved p }) →
     (said 0 p ≡ said_given (call (parts_of head starts sizes pointers)).answer)
     × (parts_of head starts sizes (set pointers (h.count - 1) p) ≡ (call (parts_of head starts sizes pointers)).arena)
 unfolding said_given
 moved-in-parts call {h} head starts sizes pointers p read sound held placed =
     let count : h.count ≡ (head_of head).count = ap (λ (k : Head). k.count) read in
     placed-in-parts (record_of h starts sizes pointers) (parts_of head starts sizes pointers) (as_read head starts sizes pointers read) call
-    (record { answer = At p; change = Moved p }) placed refl
+    (record { answer = Ok p; change = Moved p }) placed refl
     (ap (λ (k : ℕ). parts_of head starts sizes (set pointers (k - 1) p)) count
     ∙ moves (sound-open (parts_of head starts sizes pointers) sound) refl (above (head_of head).count (λ e. held (count ∙ e))))
   where
@@ -117,12 +112,12 @@ refused-given r stopped told = (
   sym (ap (λ (o : Allocation). o.arena) stopped),
 )
 
-pub refused-plain : {a : Arena} (r : Refusal) {out : Said} {call : Outcome} → call ≡ record { answer = Refused r; arena = a } → out ≡ said (number_of r) 0 →
+pub refused-plain : {a : Arena} (r : Refusal) {out : Said} {call : Outcome ⊤} → call ≡ record { answer = Err r; arena = a } → out ≡ said (number_of r) 0 →
     (out ≡ said_of call.answer) × (a ≡ call.arena)
 unfolding said_of
 refused-plain r stopped told = (
-  told ∙ sym (ap (λ (o : Outcome). said_of o.answer) stopped),
-  sym (ap (λ (o : Outcome). o.arena) stopped),
+  told ∙ sym (ap (λ (o : Outcome ⊤). said_of o.answer) stopped),
+  sym (ap (λ (o : Outcome ⊤). o.arena) stopped),
 )
 
 -- nor are the region's bytes changed
@@ -132,8 +127,8 @@ unfolding given after_given
 refused-bytes make bytes a r stopped = sym (ap (λ (o : Allocation). after_given o.answer make bytes) stopped)
 
 -- what an answer in numbers tells
-pub said-served : (g : Given) {s : Said} → s ≡ said_given g → s.refusal ≡ 0 → g ≡ At s.offset
-said-served g e served = said-given g (sym (ap (λ (s : Said). s.refusal) e) ∙ served) ∙ ap (λ (s : Said). At s.offset) (sym e)
+pub said-served : (g : Given) {s : Said} → s ≡ said_given g → s.refusal ≡ 0 → g ≡ Ok s.offset
+said-served g e served = said-given g (sym (ap (λ (s : Said). s.refusal) e) ∙ served) ∙ ap (λ (s : Said). Ok s.offset) (sym e)
 
 -- so the bytes are those of a served call, or are left alone
 pub served-bytes : (g : Given) (make : ℕ → List ℕ) (bytes : List ℕ) {s : Said} → s ≡ said_given g → s.refusal ≡ 0 → make s.offset ≡ after_given g make bytes
@@ -142,8 +137,8 @@ served-bytes g make bytes e served = sym (ap (λ (x : Given). after_given x make
 
 pub unserved-bytes : (g : Given) (make : ℕ → List ℕ) (bytes : List ℕ) {s : Said} → s ≡ said_given g → (s.refusal ≡ 0 → ⊥) → bytes ≡ after_given g make bytes
 unfolding said_given after_given
-unserved-bytes (At offset) make bytes e refused = absurd (refused (ap (λ (s : Said). s.refusal) e))
-unserved-bytes (NONE r) make bytes e refused = refl
+unserved-bytes (Ok offset) make bytes e refused = absurd (refused (ap (λ (s : Said). s.refusal) e))
+unserved-bytes (Err r) make bytes e refused = refl
 
 -- a call on the record's own region, whose length was told by the record
 pub of-own-region : (call : ℕ → Allocation) {lent region : ℕ} {r : Said} {after : Arena} → lent ≡ region →

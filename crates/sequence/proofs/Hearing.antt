@@ -2,13 +2,12 @@
 use Prim.Native.Nat.{ℕ, ◌≤◌}
 use mathlib.Core.Bool.{Bool, true, false, not, ◌&&◌, ◌||◌}
 use mathlib.Core.Logic.{inl, inr}
-use Rattle.std.specs.Prelude.{Option, None, Some}
+use Rattle.std.specs.Prelude.{Option, None, Some, Ok}
 use mathlib.Core.Path.{◌≡◌, refl, ap}
 use lib.Dec.{ltb, eqb}
 use borrow.Author.Tests.{le-ltb, eq-eqb}
 use Rattle.rounding.proofs.Tests.{or-neither, true-not}
 use Rattle.arena.specs.declared.Arena.{Arena}
-use Rattle.arena.specs.declared.Answer.TheVariants.{Done}
 use Rattle.arena.specs.declared.Refusal.{Refusal}
 use Rattle.arena.specs.Numbers.{most}
 use Rattle.arena.specs.Refusals.{refused_by, answered}
@@ -32,7 +31,7 @@ unfolding given
 given-heard a None e = rw e (inr refl)
 given-heard a (Some t) e = rw e (inl refl)
 
-answered-done : {r : Option Refusal} (a changed : Arena) → r ≡ None → (answered r a changed).answer ≡ Done
+answered-done : {r : Option Refusal} (a changed : Arena) → r ≡ None → (answered r a changed).answer ≡ (Ok tt)
 unfolding answered
 answered-done a changed e = rw e
 

@@ -3,7 +3,7 @@
 use Prim.Native.Nat.{ℕ}
 use mathlib.Core.List.{List, ◌∷◌, map}
 use mathlib.Core.Option
-use Rattle.std.specs.Prelude.{Option, None, Some}
+use Rattle.std.specs.Prelude.{Option, None, Some, Err, Ok}
 use mathlib.Core.Path.{◌≡◌, refl, sym, ap, subst, ◌∙◌}
 use Rattle.arena.specs.declared.Head.{Head}
 use Rattle.arena.specs.declared.Arena.{Arena}
@@ -11,12 +11,10 @@ use Rattle.arena.specs.declared.Chunk.{Chunk}
 use Rattle.arena.specs.declared.Refusal.{Refusal}
 use Rattle.arena.specs.declared.Refusal.TheVariants.{Room}
 use Rattle.arena.specs.Record.{held_of, holding}
-use Rattle.arena.specs.Refusals.{answered}
+use Rattle.arena.specs.Refusals.{answered, Given}
 use Rattle.arena.proofs.Soundness.{Sound}
 use Rattle.arena.proofs.Standing.{standing-sound, standing-held}
 use Rattle.arena.proofs.View.{held-holding}
-use Rattle.calls.specs.declared.Given.{Given}
-use Rattle.calls.specs.declared.Given.TheVariants.{At, Refused}
 use Rattle.calls.specs.Bytes.{after_given}
 use Rattle.calls.specs.Allocate.{Taken, given}
 use Rattle.sequence.specs.Ledger.{Live, Chosen, chosen_of, choose}
@@ -48,8 +46,8 @@ settled spaces g e = record { sound = standing-sound g.standing; spaces = spaces
 
 -- a call that gives out a block: refused, nothing changes
 module _ (s : State) (inv : Invariant s) (others : List Live) (after : List ℕ) (new : ℕ → Live) where
-  pub giving-keeps : (r : Option Refusal) (o : Option Taken) → ((x : Refusal) → (given r s.arena o).answer ≡ Refused x → after ≡ s.bytes) →
-      ((t : Taken) → r ≡ None → o ≡ Some t → (given r s.arena o).answer ≡ At t.offset →
+  pub giving-keeps : (r : Option Refusal) (o : Option Taken) → ((x : Refusal) → (given r s.arena o).answer ≡ Err x → after ≡ s.bytes) →
+      ((t : Taken) → r ≡ None → o ≡ Some t → (given r s.arena o).answer ≡ Ok t.offset →
       Invariant (state_of (holding s.arena.head t.chunks) after (new t.offset ∷ others))) →
       Invariant (giving s others (given r s.arena o) after new)
   unfolding given if_given
@@ -58,7 +56,7 @@ module _ (s : State) (inv : Invariant s) (others : List Live) (after : List ℕ)
   giving-keeps None (Some t) same h = h t refl refl refl
 
 -- the bytes after a call that is refused are those before
-pub unchanged : {g : Given} {x : Refusal} (make : ℕ → List ℕ) (bytes : List ℕ) → g ≡ Refused x → after_given g make bytes ≡ bytes
+pub unchanged : {g : Given} {x : Refusal} (make : ℕ → List ℕ) (bytes : List ℕ) → g ≡ Err x → after_given g make bytes ≡ bytes
 unfolding after_given
 unchanged make bytes e = rw e
 

@@ -1,13 +1,11 @@
 -- Allocate, allocate with a token, copy in and fill keep the invariant: each is one fresh block, and writes in that block alone. Assumes nothing.
 use Prim.Native.Nat.{ℕ, ◌+◌, ◌≤◌}
 use mathlib.Core.List.{List, ◌∷◌}
-use Rattle.std.specs.Prelude.{Option, None, Some}
+use Rattle.std.specs.Prelude.{Option, None, Some, Ok}
 use mathlib.Core.Path.{◌≡◌, refl, sym, ap, subst}
 use lib.ListN.{length, replicate, length-replicate}
 use Rattle.arena.specs.Record.{held_of, holding}
-use Rattle.arena.specs.Refusals.{refused_by}
-use Rattle.calls.specs.declared.Given.{Given}
-use Rattle.calls.specs.declared.Given.TheVariants.{At}
+use Rattle.arena.specs.Refusals.{refused_by, Given}
 use Rattle.calls.specs.declared.Token.{Token}
 use Rattle.calls.specs.Allocate.{Taken, allocate_in, request_tests, allocate_of}
 use Rattle.calls.specs.Token.{token_for, token_given, with_token_of}
@@ -48,7 +46,7 @@ module _ (s : State) (inv : Invariant s) where
       fresh size align s.bytes t r o unissued (only_none s.bytes t.offset (t.offset + size)) (holds-unknown s.bytes t.offset size align None))
 
   -- the token of a served call is the one that the chunks before it issue
-  token-issued : {offset : ℕ} (g : Given) → g ≡ At offset → Issued (held_of s.arena) (Some (token_given g (token_for (held_of s.arena))))
+  token-issued : {offset : ℕ} (g : Given) → g ≡ Ok offset → Issued (held_of s.arena) (Some (token_given g (token_for (held_of s.arena))))
   unfolding token_given
   token-issued g e = subst (λ (x : Given). Issued (held_of s.arena) (Some (token_given x (token_for (held_of s.arena))))) (sym e) issued
 

@@ -1,15 +1,10 @@
 -- Demand 3, "any sequence of calls from a new arena": a state, the calls, and the state after a list of them. A call names a live block by its
 -- place in the ledger, so that every list of calls is such a sequence. Each step cites the definition that the call's contract cites.
-use Rattle.std.specs.Prelude.{ℕ, ◌+◌, cond, List, [], ◌∷◌, length, replicate, leb, Option, None, Some}
+use Rattle.std.specs.Prelude.{ℕ, ◌+◌, cond, List, [], ◌∷◌, length, replicate, leb, Option, None, Some, Err, Ok, ⊤}
 use Rattle.arena.specs.declared.Arena.{Arena}
-use Rattle.arena.specs.declared.Answer.{Answer}
-use Rattle.arena.specs.declared.Answer.TheVariants.{Done, Refused}
 use Rattle.arena.specs.declared.Outcome.{Outcome}
 use Rattle.arena.specs.Creation.{created_of, set_limit_of, no_limit_of, reset_of}
-use Rattle.calls.specs.declared.Given.{Given}
-use Rattle.calls.specs.declared.Given.TheVariants.{At, Refused as NotGiven}
 use Rattle.calls.specs.declared.Token.{Token}
-use Rattle.calls.specs.declared.Allocation.{Allocation}
 use Rattle.calls.specs.Bytes.{written}
 use Rattle.calls.specs.Allocate.{allocate_of}
 use Rattle.calls.specs.Free.{free_of}
@@ -19,6 +14,7 @@ use Rattle.calls.specs.Resize.{resize_of, resize_bytes}
 use Rattle.calls.specs.Token.{with_token_of, cancel_of}
 use Rattle.calls.specs.Write.{copy_in_bytes, fill_bytes, lend_of}
 use Rattle.sequence.specs.Ledger.{Live, block, unknown, known, kept, noted, Chosen, choose}
+use Rattle.arena.specs.Refusals.{Allocation, Answer, Given}
 
 -- the record, the lent region, and the live blocks, the one last touched first
 pub record State : Type 0 where
@@ -47,12 +43,12 @@ pub data Call : Type 0 where
 
 -- the ledger after a call that gives out a block, and after one that does not: as it was, where the call is refused
 unfoldable pub if_given : Given → List Live → (ℕ → List Live) → List Live
-if_given (At offset) before after = after offset
-if_given (NotGiven r) before after = before
+if_given (Ok offset) before after = after offset
+if_given (Err r) before after = before
 
 unfoldable pub if_done : Answer → List Live → List Live → List Live
-if_done Done before after = after
-if_done (Refused r) before after = before
+if_done (Ok u) before after = after
+if_done (Err r) before after = before
 
 -- a call that gives out a block: unless it is refused, the new block is live beside the others
 abbrev pub giving : State → List Live → Allocation → List ℕ → (ℕ → Live) → State
@@ -60,7 +56,7 @@ giving s others out bytes new =
     state_of out.arena bytes (if_given out.answer s.ledger (λ offset. new offset ∷ others))
 
 -- a call that gives out none: unless it is refused, these blocks are live
-abbrev pub leaving : State → Outcome → List Live → State
+abbrev pub leaving : State → Outcome ⊤ → List Live → State
 leaving s out others = state_of out.arena s.bytes (if_done out.answer s.ledger others)
 
 abbrev pub token_step : ℕ → ℕ → State → State
@@ -115,8 +111,8 @@ write_step from new s b others =
 
 -- a block that isn't lent isn't written
 unfoldable pub if_lent : Answer → State → State → State
-if_lent Done before after = after
-if_lent (Refused r) before after = before
+if_lent (Ok u) before after = after
+if_lent (Err r) before after = before
 
 abbrev pub lend_step : ℕ → List ℕ → State → Live → List Live → State
 lend_step from new s b others =

@@ -1,14 +1,12 @@
 -- Demand 3: "a call needing new room and not refused otherwise answers "no room" exactly when neither the current chunk nor any rung of the
 -- sizing ladder can take the request".
-use Rattle.std.specs.Prelude.{ℕ, ◌≤◌, ◌<◌, ◌≡◌, ◌⊎◌, ◌↔◌, Some}
+use Rattle.std.specs.Prelude.{ℕ, ◌≤◌, ◌<◌, ◌≡◌, ◌⊎◌, ◌↔◌, Some, Err, Ok}
 use Rattle.std.specs.Int.{◌∣◌}
 use Rattle.arena.specs.declared.Arena.{Arena}
 use Rattle.arena.specs.declared.Chunk.{Chunk}
 use Rattle.arena.specs.Record.{held_of}
-use Rattle.arena.specs.Refusals.{number_of}
+use Rattle.arena.specs.Refusals.{number_of, Given}
 use Rattle.arena.specs.Ladder.{Rung, rung_chunk}
-use Rattle.calls.specs.declared.Given.{Given}
-use Rattle.calls.specs.declared.Given.TheVariants.{At, Refused}
 use Rattle.calls.specs.Allocate.{Taken, current_gives, allocate_of}
 use Rattle.calls.specs.Grow.{grown_in_place, grow_of}
 use Rattle.calls.specs.Shrink.{shrink_of}
@@ -18,8 +16,8 @@ use Rattle.sequence.specs.Ledger.{Live}
 
 -- the number of a refusal, and 0 where a block is given
 abbrev pub number_given : Given → ℕ
-number_given (At offset) = 0
-number_given (Refused r) = number_of r
+number_given (Ok offset) = 0
+number_given (Err r) = number_of r
 
 -- "the current chunk can take the request", by the rule of allocate
 abbrev pub CurrentTakes : Arena → ℕ → ℕ → Type 0

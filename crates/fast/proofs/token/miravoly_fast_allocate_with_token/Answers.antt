@@ -6,7 +6,6 @@ use mathlib.Core.Path.{sym, ap, ◌∙◌}
 use lib.ListN.{length}
 use Rattle.arena.specs.declared.Arena.{Arena}
 use Rattle.arena.specs.Record.{held_of}
-use Rattle.calls.specs.declared.Allocation.{Allocation}
 use Rattle.calls.specs.declared.TokenAllocation.{TokenAllocation}
 use Rattle.calls.specs.Allocate.{given, allocate_in, allocate_of}
 use Rattle.calls.specs.Inner.{with_token, lent_tests}
@@ -18,6 +17,7 @@ use Rattle.host.specs.Said.{said_token}
 use Rattle.fast.specs.Parts.{parts_of}
 use Rattle.fast.proofs.InParts.{as_read, lent-refused, lent-passed}
 use Rattle.fast.proofs.token.miravoly_fast_allocate_with_token.Goals as goal
+use Rattle.arena.specs.Refusals.{Allocation}
 
 pub returns-in-Refused : goal.returns-in-Refused
 unfolding allocate_of given with_token_of token_given said_token

@@ -1,8 +1,8 @@
 -- `host::lend::part_of` meets its contract: each case of the answer is a clause of the definition. Assumes nothing.
 use mathlib.Core.Path.{sym, ap, ◌∙◌}
-use Rattle.arena.specs.declared.Answer.{Answer}
 use Rattle.host.specs.Said.{said_at, said_part}
 use Rattle.host.proofs.lend.part_of.Goals as goal
+use Rattle.arena.specs.Refusals.{Answer}
 
 pub returns-in-Done : goal.returns-in-Done
 unfolding said_part

@@ -5,7 +5,6 @@ use mathlib.Core.Bool.{true}
 use mathlib.Core.Path.{◌≡◌, sym, ◌∙◌, ap}
 use Rattle.arena.specs.Sound.{sound_of}
 use lib.ListN.{length}
-use Rattle.calls.specs.declared.Allocation.{Allocation}
 use Rattle.calls.specs.Allocate.{given}
 use Rattle.calls.specs.Bytes.{carried, after_given}
 use Rattle.calls.specs.Grow.{grow_of, grow_bytes}
@@ -13,6 +12,7 @@ use Rattle.calls.proofs.Answering.{bytes-shown}
 use Rattle.calls.proofs.Testing.{tests-refuse, tests-pass, lent-passes}
 use Rattle.reshape.proofs.Stopping.{grow-stopped}
 use Rattle.reshape.proofs.grow.grow.Goals as goal
+use Rattle.arena.specs.Refusals.{Allocation}
 
 pub returns-in-Refused : goal.returns-in-Refused
 unfolding grow_bytes given after_given

@@ -8,7 +8,6 @@ use mathlib.Core.Path.{◌≡◌, sym, ◌∙◌, ap}
 use lib.ListN.{length, replicate}
 use Rattle.arena.specs.Sound.{sound_of}
 use Rattle.arena.proofs.Soundness.{sound-open}
-use Rattle.calls.specs.declared.Allocation.{Allocation}
 use Rattle.calls.specs.Allocate.{given}
 use Rattle.calls.specs.Bytes.{written, carried, after_given}
 use Rattle.calls.specs.Grow.{grow_bytes, grow_zeroed_bytes}
@@ -17,6 +16,7 @@ use Rattle.calls.proofs.Changing.{BothInside, grow-served}
 use Rattle.calls.proofs.Testing.{tests-refuse, tests-pass, lent-passes}
 use Rattle.reshape.proofs.Stopping.{grow-stopped}
 use Rattle.reshape.proofs.grow.grow_zeroed.Goals as goal
+use Rattle.arena.specs.Refusals.{Allocation}
 
 -- what carrying and then clearing makes of the bytes
 abbrev moved : List ℕ → ℕ → ℕ → ℕ → List ℕ

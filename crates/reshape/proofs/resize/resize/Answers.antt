@@ -6,7 +6,6 @@ use mathlib.Core.Path.{◌≡◌, sym, ◌∙◌, ap}
 use Rattle.arena.specs.Sound.{sound_of}
 use lib.ListN.{length}
 use Rattle.arena.specs.Record.{held_of}
-use Rattle.calls.specs.declared.Allocation.{Allocation}
 use Rattle.calls.specs.Allocate.{given}
 use Rattle.calls.specs.Bytes.{carried, after_given}
 use Rattle.calls.specs.Resize.{resize_in, resize_of, resize_bytes}
@@ -15,6 +14,7 @@ use Rattle.calls.proofs.Answering.{stopped-first, bytes-shown}
 use Rattle.calls.proofs.Resizing.{resize_rest}
 use Rattle.calls.proofs.Testing.{tests-refuse, tests-pass, lent-passes}
 use Rattle.reshape.proofs.resize.resize.Goals as goal
+use Rattle.arena.specs.Refusals.{Allocation}
 
 pub returns-in-Refused : goal.returns-in-Refused
 unfolding resize_bytes given after_given resize_of

@@ -7,7 +7,6 @@ use Rattle.arena.specs.Sound.{sound_of}
 use lib.Dec.{ltb}
 use lib.ListN.{length}
 use Rattle.arena.specs.Record.{held_of}
-use Rattle.calls.specs.declared.Allocation.{Allocation}
 use Rattle.calls.specs.Allocate.{given}
 use Rattle.calls.specs.Bytes.{carried, after_given}
 use Rattle.calls.specs.Shrink.{shrink_in, shrink_of, shrink_bytes}
@@ -15,6 +14,7 @@ use Rattle.calls.specs.Inner.{lent_tests, change_tests}
 use Rattle.calls.proofs.Answering.{stopped-first, bytes-shown}
 use Rattle.calls.proofs.Testing.{tests-refuse, tests-pass, lent-passes}
 use Rattle.reshape.proofs.shrink.shrink.Goals as goal
+use Rattle.arena.specs.Refusals.{Allocation}
 
 pub returns-in-Refused : goal.returns-in-Refused
 unfolding shrink_bytes given after_given shrink_of

@@ -12,7 +12,6 @@ use Rattle.arena.specs.declared.change.Change.TheVariants.{Moved}
 use Rattle.arena.specs.Record.{record_of, held_of}
 use Rattle.arena.specs.Sound.{allowed_align}
 use Rattle.arena.proofs.Soundness.{align-open, sound-open}
-use Rattle.calls.specs.declared.Given.TheVariants.{At}
 use Rattle.calls.specs.Inner.{LastBlock, ShrinkTested, placed_of}
 use Rattle.calls.specs.Shrink.{given_up, shrink_of, shrunk_in_place}
 use Rattle.calls.proofs.Cases.{full-no-room, room-same}
@@ -21,6 +20,7 @@ use Rattle.calls.proofs.Placing.{placed-moved}
 use Rattle.calls.proofs.Shrinking.{goes-up, shrinks-in-place}
 use Rattle.calls.proofs.Testing.{block_inside}
 use Rattle.reshape.proofs.shrink.shrink_fast.Goals as goal
+use Rattle.std.specs.Prelude.{Ok}
 
 pub returns-then-old-new : goal.returns-then-old-new
 returns-then-old-new c = λ p e. full-no-room e
@@ -101,7 +101,7 @@ returns c =
     let d = c.down_to_power-d.result in
     let up : d ≡ given_up a.head.minimum s.old s.new s.new_align =
     c.down_to_power-d.ensures ∙ ap (round_down (s.old - s.new)) c.larger.ensures in
-    subst (λ (q : ℕ). placed_of a (record { answer = At q; change = Moved q }) ≡ shrink_of a a.head.region s.offset s.old s.old_align s.new s.new_align) (room-same e)
+    subst (λ (q : ℕ). placed_of a (record { answer = Ok q; change = Moved q }) ≡ shrink_of a a.head.region s.offset s.old s.old_align s.new s.new_align) (room-same e)
     (placed-moved a
     (shrinks-in-place a.head (held_of a) s.offset s.old s.old_align s.new s.new_align (omega (arith, c.if-new_align-old_align.false))
     ∙ sym (ap (shrunk_in_place (held_of a) s.offset s.old) up)

@@ -8,8 +8,7 @@ use lib.Dec.{ltb}
 use lib.ListN.{length}
 use Rattle.arena.specs.declared.Arena.{Arena}
 use Rattle.arena.specs.Record.{record_of, held_of}
-use Rattle.arena.specs.Refusals.{refused_by}
-use Rattle.calls.specs.declared.Allocation.{Allocation}
+use Rattle.arena.specs.Refusals.{refused_by, Allocation}
 use Rattle.calls.specs.declared.Placed.{Placed}
 use Rattle.calls.specs.Allocate.{given}
 use Rattle.calls.specs.Bytes.{carried, after_given}

@@ -6,8 +6,6 @@ use lib.ListN.{length}
 use Rattle.arena.specs.declared.Arena.{Arena}
 use Rattle.arena.specs.declared.change.Change.TheVariants.{Moved}
 use Rattle.arena.specs.Record.{record_of}
-use Rattle.calls.specs.declared.Allocation.{Allocation}
-use Rattle.calls.specs.declared.Given.TheVariants.{At}
 use Rattle.calls.specs.declared.fast.Fast.TheVariants.{Room}
 use Rattle.calls.specs.Bytes.{carried, after_given}
 use Rattle.calls.specs.Shrink.{shrink_of, shrink_bytes}
@@ -15,6 +13,8 @@ use Rattle.calls.specs.Inner.{placed_of}
 use Rattle.calls.proofs.Answering.{bytes-shown}
 use Rattle.calls.proofs.Changing.{shrink-served}
 use Rattle.reshape.proofs.shrink.shrink_placed.Goals as goal
+use Rattle.arena.specs.Refusals.{Allocation}
+use Rattle.std.specs.Prelude.{Ok}
 
 pub shrink_fast-requires : goal.shrink_fast-requires
 shrink_fast-requires c = c.requires.0
@@ -22,7 +22,7 @@ shrink_fast-requires c = c.requires.0
 pub carry-requires : goal.carry-requires
 carry-requires c =
     let own : Arena = record_of c.args.h c.args.starts.now c.args.sizes.now c.args.pointers.now in
-    let answered : (p : ℕ) → c.shrink_fast.result ≡ Room p → let s = c.args in placed_of own (record { answer = At p; change = Moved p }) ≡ shrink_of own (length s.region.now) s.offset s.old s.old_align s.new s.new_align = λ p e. let s = c.args in
+    let answered : (p : ℕ) → c.shrink_fast.result ≡ Room p → let s = c.args in placed_of own (record { answer = Ok p; change = Moved p }) ≡ shrink_of own (length s.region.now) s.offset s.old s.old_align s.new s.new_align = λ p e. let s = c.args in
     c.shrink_fast.ensures p e
     ∙ sym (ap (λ (lent : ℕ). shrink_of own lent s.offset s.old s.old_align s.new s.new_align) c.requires.1) in
     let s = c.args in
@@ -35,7 +35,7 @@ pub returns : goal.returns
 unfolding shrink_bytes after_given
 returns c =
     let own : Arena = record_of c.args.h c.args.starts.now c.args.sizes.now c.args.pointers.now in
-    let answered : (p : ℕ) → c.shrink_fast.result ≡ Room p → let s = c.args in placed_of own (record { answer = At p; change = Moved p }) ≡ shrink_of own (length s.region.now) s.offset s.old s.old_align s.new s.new_align = λ p e. let s = c.args in
+    let answered : (p : ℕ) → c.shrink_fast.result ≡ Room p → let s = c.args in placed_of own (record { answer = Ok p; change = Moved p }) ≡ shrink_of own (length s.region.now) s.offset s.old s.old_align s.new s.new_align = λ p e. let s = c.args in
     c.shrink_fast.ensures p e
     ∙ sym (ap (λ (lent : ℕ). shrink_of own lent s.offset s.old s.old_align s.new s.new_align) c.requires.1) in
     let s = c.args in

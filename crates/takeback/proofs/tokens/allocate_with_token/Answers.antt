@@ -6,11 +6,11 @@ use mathlib.Core.Path.{◌≡◌, sym, ◌∙◌, ap}
 use Rattle.arena.specs.Sound.{sound_of}
 use Rattle.rounding.proofs.Tests.{taken_false, left-true}
 use Rattle.arena.specs.Record.{held_of}
-use Rattle.calls.specs.declared.Allocation.{Allocation}
 use Rattle.calls.specs.Token.{token_for, with_token_of}
 use Rattle.calls.specs.Inner.{with_token}
 use Rattle.calls.proofs.Requests.{allocate-state, allocate-region}
 use Rattle.takeback.proofs.tokens.allocate_with_token.Goals as goal
+use Rattle.arena.specs.Refusals.{Allocation}
 
 pub returns-then-not-is_sound : goal.returns-then-not-is_sound
 unfolding with_token_of

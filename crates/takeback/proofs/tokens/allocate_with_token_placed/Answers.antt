@@ -3,12 +3,12 @@ use mathlib.Core.Path.{◌∙◌, ap}
 use Rattle.arena.specs.Record.{record_of}
 use Rattle.arena.specs.Inner.{changed_by}
 use Rattle.arena.proofs.Soundness.{sound-open}
-use Rattle.calls.specs.declared.Allocation.{Allocation}
 use Rattle.calls.specs.declared.Token.{Token}
 use Rattle.calls.specs.declared.TokenAllocation.{TokenAllocation}
 use Rattle.calls.specs.Token.{with_token_of}
 use Rattle.calls.specs.Inner.{with_token}
 use Rattle.takeback.proofs.tokens.allocate_with_token_placed.Goals as goal
+use Rattle.arena.specs.Refusals.{Allocation}
 
 pub token_for-before-requires : goal.token_for-before-requires
 token_for-before-requires c = (sound-open _ c.requires).head.count_bound

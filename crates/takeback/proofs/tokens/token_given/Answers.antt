@@ -1,8 +1,8 @@
 -- `takeback::tokens::token_given` meets its contract: each case of the answer is a clause of the definition. Assumes nothing.
 use mathlib.Core.Path.{sym, ap}
-use Rattle.calls.specs.declared.Given.{Given}
 use Rattle.calls.specs.Token.{token_given}
 use Rattle.takeback.proofs.tokens.token_given.Goals as goal
+use Rattle.arena.specs.Refusals.{Given}
 
 pub returns-in_default : goal.returns-in_default
 unfolding token_given
