@@ -17,9 +17,13 @@ use Rattle.arena.specs.Sound.{sound_of, state_test}
 use Rattle.arena.specs.Inner.{moved_to}
 use Rattle.arena.proofs.Refusing.{refused-now, refused-later, none-applies}
 use Rattle.calls.specs.declared.Token.{Token}
-use Rattle.calls.specs.Token.{off_current, bad_token, rewound, cancel_tests, cancel_of}
+use Rattle.calls.specs.Token.{token_of, off_current, bad_token, rewound, cancel_tests, cancel_of}
 use Rattle.calls.proofs.Rewinding.{rewound-same}
 use Rattle.std.specs.Prelude.{Err, Ok}
+
+-- the token by default is that of a refused allocation
+pub no-token : {token : Token} → (token.count ≡ 0) × (token.pointer ≡ 0) → token ≡ token_of 0 0
+no-token e = λ i. record { count = e.0 i; pointer = e.1 i }
 
 module _ (minimum : ℕ) (cs : List Chunk) (offset : ℕ) (token : Token) where
   -- the counts: above is bad, below is not, and an equal one goes by the current chunk

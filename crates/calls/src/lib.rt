@@ -21,8 +21,8 @@ pub struct Answered<T> {
     pub change: Change,
 }
 
-// What allocate with a token records: the chunk count and the current pointer before it.
-#[derive(Clone, Copy)]
+// What allocate with a token records: the chunk count and the current pointer before it; by default 0 and 0, as a refused one says.
+#[derive(Clone, Copy, Default)]
 pub struct Token {
     pub count: usize,
     pub pointer: usize,

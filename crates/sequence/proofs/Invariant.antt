@@ -2,8 +2,7 @@
 -- that names a block may take that block for the first of the ledger. Assumes nothing.
 use Prim.Native.Nat.{ℕ}
 use mathlib.Core.List.{List, ◌∷◌, map}
-use mathlib.Core.Option
-use Rattle.std.specs.Prelude.{Option, None, Some, Err, Ok}
+use Rattle.std.specs.Prelude.{Option, None, Some, Err, Ok, option_map}
 use mathlib.Core.Path.{◌≡◌, refl, sym, ap, subst, ◌∙◌}
 use Rattle.arena.specs.declared.Head.{Head}
 use Rattle.arena.specs.declared.Arena.{Arena}
@@ -85,10 +84,10 @@ unfolding on_chosen
 block-keeps s inv place act h =
     subst (λ (o : Option (Chosen Live)). Invariant (on_chosen o act s)) (sym chosen-space) (go (choose inv.spaces place) refl)
   where
-    chosen-space : choose s.ledger place ≡ Option.map (λ (c : Chosen Space). chosen_of c.one.live (lives c.others)) (choose inv.spaces place)
+    chosen-space : choose s.ledger place ≡ option_map (λ (c : Chosen Space). chosen_of c.one.live (lives c.others)) (choose inv.spaces place)
     chosen-space = ap (λ (l : List Live). choose l place) (sym inv.same) ∙ choose-map (λ (u : Space). u.live) inv.spaces place
 
     go : (o : Option (Chosen Space)) → choose inv.spaces place ≡ o →
-        Invariant (on_chosen (Option.map (λ (c : Chosen Space). chosen_of c.one.live (lives c.others)) o) act s)
+        Invariant (on_chosen (option_map (λ (c : Chosen Space). chosen_of c.one.live (lives c.others)) o) act s)
     go None e = inv
     go (Some c) e = h c.one c.others (good-chosen place e inv.good)

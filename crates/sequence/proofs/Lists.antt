@@ -1,8 +1,7 @@
 -- Facts of each element and of each two, when one element is chosen and put first. Each goes down the list. Assumes nothing.
 use Prim.Native.Nat.{ℕ, zero, suc}
 use mathlib.Core.List.{List, [], ◌∷◌, map}
-use mathlib.Core.Option
-use Rattle.std.specs.Prelude.{Option, None, Some}
+use Rattle.std.specs.Prelude.{Option, None, Some, option_map}
 use Rattle.std.proofs.lemmas.Option.{none-some}
 use Rattle.rounding.proofs.Optional.{mapped_some}
 use mathlib.Core.Path.{◌≡◌, refl, ap, subst, ◌∙◌}
@@ -58,15 +57,15 @@ module _ {A : Type 0} where
 
 -- choosing among what a list is mapped to
 pub choose-map : {A B : Type 0} (f : A → B) (xs : List A) (place : ℕ) →
-    choose (map f xs) place ≡ Option.map (λ c. chosen_of (f c.one) (map f c.others)) (choose xs place)
+    choose (map f xs) place ≡ option_map (λ c. chosen_of (f c.one) (map f c.others)) (choose xs place)
 unfolding choose
 choose-map f [] place = refl
 choose-map f (x ∷ xs) zero = refl
-choose-map {A} {B} f (x ∷ xs) (suc place) = ap (Option.map (λ (d : Chosen B). chosen_of d.one (f x ∷ d.others))) (choose-map f xs place) ∙ go (choose xs place)
+choose-map {A} {B} f (x ∷ xs) (suc place) = ap (option_map (λ (d : Chosen B). chosen_of d.one (f x ∷ d.others))) (choose-map f xs place) ∙ go (choose xs place)
   where
     go : (o : Option (Chosen A)) →
-        Option.map (λ (d : Chosen B). chosen_of d.one (f x ∷ d.others)) (Option.map (λ (c : Chosen A). chosen_of (f c.one) (map f c.others)) o)
-        ≡ Option.map (λ (c : Chosen A). chosen_of (f c.one) (map f c.others)) (Option.map (λ (c : Chosen A). chosen_of c.one (x ∷ c.others)) o)
+        option_map (λ (d : Chosen B). chosen_of d.one (f x ∷ d.others)) (option_map (λ (c : Chosen A). chosen_of (f c.one) (map f c.others)) o)
+        ≡ option_map (λ (c : Chosen A). chosen_of (f c.one) (map f c.others)) (option_map (λ (c : Chosen A). chosen_of c.one (x ∷ c.others)) o)
     go None = refl
     go (Some c) = refl
 

@@ -4,11 +4,11 @@ use native.Mathlib.Omega.{arith}
 use mathlib.Core.Bool.{Bool, true, false, not, cond, ◌&&◌, ◌||◌}
 use mathlib.Core.List.{List}
 use mathlib.Core.Logic.{inl, inr}
-use Rattle.std.specs.Prelude.{Option, None, Some}
 use mathlib.Core.Path.{◌≡◌, refl, sym, ap, subst, ◌∙◌}
 use lib.Dec.{leb, ltb, eqb}
 use lib.ListN.{length}
 use borrow.Author.Tests.{le-ltb, le-leb, eqb-true}
+use Rattle.std.specs.Prelude.{Option, None as none, Some as some}
 use Rattle.rounding.specs.Every.{Each, any}
 use Rattle.rounding.specs.Round.{multiple}
 use Rattle.rounding.proofs.Tests.{and_both, or_left, or_right, or-neither, true-not}
@@ -62,11 +62,11 @@ module _ {minimum offset size top : ℕ} {token : Option Token} where
   found (older {c} {cs} p) = or_right (has_block offset size c) (found p)
 
 -- a live token's count is at most the number of its block's chunk
-count_bound : {k end top : ℕ} {token : Token} → TokenFits k end top (Some token) → token.count ≤ k
+count_bound : {k end top : ℕ} {token : Token} → TokenFits k end top (some token) → token.count ≤ k
 count_bound (same-chunk p q) = omega arith
 count_bound (new-chunk p q) = omega arith
 
-count-below : {minimum offset size top : ℕ} {token : Token} {cs : List Chunk} → Placed minimum offset size top (Some token) cs → token.count ≤ length cs
+count-below : {minimum offset size top : ℕ} {token : Token} {cs : List Chunk} → Placed minimum offset size top (some token) cs → token.count ≤ length cs
 count-below (current p) = count_bound p.token-fits
 count-below (older p) = omega (arith, count-below p)
 
@@ -76,12 +76,12 @@ not-both false b h = refl
 
 module _ {minimum offset size top : ℕ} {token : Token} where
   -- with as many chunks as its count, it says the top of a space in the current chunk
-  on-current : {cs : List Chunk} → Placed minimum offset size top (Some token) cs → token.count ≡ length cs →
+  on-current : {cs : List Chunk} → Placed minimum offset size top (some token) cs → token.count ≡ length cs →
       off_current minimum cs offset token.pointer ≡ false
   unfolding off_current
   on-current (current {c} {cs} p) e = not-both (eqb offset c.pointer) _ (λ here. back p.token-fits (eqb-true offset c.pointer here))
     where
-      back : TokenFits (suc (length cs)) (end_of c) top (Some token) → offset ≡ c.pointer →
+      back : TokenFits (suc (length cs)) (end_of c) top (some token) → offset ≡ c.pointer →
           (ltb token.pointer c.pointer || (ltb (end_of c) token.pointer || not (multiple minimum token.pointer))) ≡ false
       back (new-chunk q r) here = absurd (omega arith)
       back (same-chunk q r) here =
@@ -90,7 +90,7 @@ module _ {minimum offset size top : ℕ} {token : Token} where
           (true-not (dvd-multiple minimum (subst (λ (x : ℕ). minimum ∣ x) (sym r) p.fits.top-on-minimum))))
   on-current (older p) e = absurd (omega (arith, count-below p))
 
-  token-good : {cs : List Chunk} → Placed minimum offset size top (Some token) cs → bad_token minimum cs offset token ≡ false
+  token-good : {cs : List Chunk} → Placed minimum offset size top (some token) cs → bad_token minimum cs offset token ≡ false
   unfolding bad_token
   token-good {cs} p =
       or-neither (le-ltb (length cs) token.count (count-below p))
@@ -98,8 +98,8 @@ module _ {minimum offset size top : ℕ} {token : Token} where
 
 token-passes : (a : Arena) (offset size top : ℕ) (token : Option Token) → Placed a.head.minimum offset size top token (held_of a) →
     TokenAccepted a offset token
-token-passes a offset size top None p = tt
-token-passes a offset size top (Some token) p = token-good p
+token-passes a offset size top none p = tt
+token-passes a offset size top (some token) p = token-good p
 
 -- of one live block
 block-accepted : (a : Arena) (bytes : List ℕ) (u : Space) → Sits a.head.minimum (held_of a) bytes u → Accepted a u.live

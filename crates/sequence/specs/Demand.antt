@@ -1,5 +1,5 @@
 -- Demand 3: what holds in every state of every sequence of calls, each sentence of the user's beside the definition that says it.
-use Rattle.std.specs.Prelude.{ℕ, ◌+◌, ◌≤◌, ◌<◌, ◌≡◌, true, false, List, [], ◌∷◌, ◌⊎◌, length, get_or, Option, None, Some, Ok}
+use Rattle.std.specs.Prelude.{ℕ, ◌+◌, ◌≤◌, ◌<◌, ◌≡◌, true, false, List, [], ◌∷◌, ◌⊎◌, length, get_or, Ok, Option, None as none, Some as some}
 use Rattle.std.specs.Int.{◌∣◌}
 use Rattle.rounding.specs.Every.{Each}
 use Rattle.arena.specs.declared.Arena.{Arena}
@@ -46,15 +46,15 @@ SharesNone b d = (x : ℕ) → Owns b x → Owns d x → ⊥
 pub record Holds (bytes : List ℕ) (b : Live) : Type 0 where
   pub each_byte : length b.put ≡ b.size
   pub in_region : b.offset + b.size ≤ length bytes
-  pub stands : (i v : ℕ) → get_or b.put i None ≡ Some v → get_or bytes (b.offset + i) 0 ≡ v
+  pub stands : (i v : ℕ) → get_or b.put i none ≡ some v → get_or bytes (b.offset + i) 0 ≡ v
 
 -- no live block is refused by BLOCK, and no live token by TOKEN
 abbrev pub Accepted : Arena → Live → Type 0
 Accepted a b = acceptable (held_of a) b.offset b.size b.align ≡ true
 
 abbrev pub TokenAccepted : Arena → ℕ → Option Token → Type 0
-TokenAccepted a offset None = Unit {0}
-TokenAccepted a offset (Some token) = bad_token a.head.minimum (held_of a) offset token ≡ false
+TokenAccepted a offset none = Unit {0}
+TokenAccepted a offset (some token) = bad_token a.head.minimum (held_of a) offset token ≡ false
 
 pub record Demand (s : State) : Type 0 where
   pub aligned : Each Aligned s.ledger

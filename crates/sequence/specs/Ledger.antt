@@ -1,9 +1,8 @@
 -- The ledger: what the owners know of their live blocks. It is kept from the owners' side, and never read back from the region.
-use Rattle.std.specs.Prelude.{ℕ, zero, suc, ◌+◌, ◌-◌, List, [], ◌∷◌, ◌++◌, map, length, take, drop, replicate, Option, None, Some}
-use Rattle.std.proofs.Math.Option
+use Rattle.std.specs.Prelude.{ℕ, zero, suc, ◌+◌, ◌-◌, List, [], ◌∷◌, ◌++◌, map, length, take, drop, replicate, Option, None, Some, option_map}
 use Rattle.calls.specs.declared.Token.{Token}
 
--- a live block as last given; what its owner put in each of its bytes, `none` where it never wrote; and its token, where it has one
+-- a live block as last given; what its owner put in each of its bytes, `None` where it never wrote; and its token, where it has one
 pub record Live : Type 0 where
   pub offset : ℕ
   pub size : ℕ
@@ -42,4 +41,4 @@ chosen_of one others = record { one = one; others = others }
 unfoldable pub choose : {A : Type 0} → List A → ℕ → Option (Chosen A)
 choose [] place = None
 choose (x ∷ xs) zero = Some (chosen_of x xs)
-choose (x ∷ xs) (suc place) = Option.map (λ c. chosen_of c.one (x ∷ c.others)) (choose xs place)
+choose (x ∷ xs) (suc place) = option_map (λ c. chosen_of c.one (x ∷ c.others)) (choose xs place)
