@@ -6,8 +6,8 @@ use Prim.Native.Nat.{ℕ, ◌+◌, ◌-◌, ◌≤◌, ◌<◌}
 use native.Mathlib.Nat.{add-zero}
 use native.Mathlib.Omega.{arith}
 use native.Mathlib.Decide.{dec_le, dec_lt}
-use lib.ListN.{length, get_or, take, drop, set, length-append, length-take, length-drop, length-set, take-append-drop, get_or-append}
-use lib.Seq.{length-take-le, take-append_seam, drop_at, drop-drop, get_or-append-add, get_or-take, get_or-drop, get_or-set_same, get_or-set_other, ext_get_or}
+use lib.ListN.{length, get_or, take, drop, length-append, length-take, length-drop, take-append-drop, get_or-append}
+use lib.Seq.{length-take-le, take-append_seam, drop_at, drop-drop, get_or-append-add, get_or-take, get_or-drop, ext_get_or}
 use Rattle.std.specs.List.{copy_within}
 use Rattle.calls.specs.Bytes.{written, part, carried}
 

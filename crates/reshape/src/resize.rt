@@ -16,12 +16,6 @@ use calls::bytes::carry;
 use calls::refusals::{change_answer, lent_answer, nowhere};
 use calls::{Allocation, Given, Placed};
 
-fn smaller(a: usize, b: usize) -> usize
-    ensures { result ≡ min a b }
-{
-    if a < b { a } else { b }
-}
-
 // Where the block of a size above 0 stands; no byte is carried yet.
 fn resized_block<'a>(
     h: Head,
@@ -72,7 +66,7 @@ pub fn resize_placed<'a>(
     let Given::At(to) = answer else {
         return got;
     };
-    carry(region, offset, to, smaller(old, new));
+    carry(region, offset, to, old.min(new));
     got
 }
 
