@@ -58,7 +58,7 @@ pub fn is_multiple_of_power(n: usize, power: usize) -> bool
 pub fn has_one_bit_up_to(n: usize, most: usize) -> bool
     ensures { result ≡ (one_bit n && leb n most) }
 {
-    n <= most && n.is_power_of_two()
+    n.is_power_of_two() && n <= most
 }
 
 // The least power of two at or above n.
