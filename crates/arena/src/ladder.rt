@@ -8,7 +8,7 @@ ghost use Rattle.arena.specs.Inner.{lent_of, Ready};
 
 use crate::lent::Lent;
 use crate::placing::lowest_place;
-use crate::sizing::{larger, usable_size};
+use crate::sizing::usable_size;
 use crate::{Arena, Chunk, Head};
 
 pub fn held_bytes(a: &Lent) -> usize
@@ -27,17 +27,17 @@ fn first_base(a: &Lent, size: usize) -> usize
     requires { Ready a.now.head (held_of (lent_of a.now)) }
     ensures { result ≡ first_base (held_of (lent_of a.now)) size }
 {
-    let floor = larger(size, Arena::DEFAULT_SIZE);
+    let floor = size.max(Arena::DEFAULT_SIZE);
     let Some(c) = a.current() else {
         return floor;
     };
-    larger(2 * c.size, floor)
+    (2 * c.size).max(floor)
 }
 
 fn is_tried(h: Head, held: usize, size: usize, base: usize) -> bool
     ensures { result ≡ tried h held size base }
 {
-    if larger(size, Arena::DEFAULT_SIZE) <= base {
+    if size.max(Arena::DEFAULT_SIZE) <= base {
         return true;
     }
     if h.limited != 1 {
@@ -82,7 +82,7 @@ pub fn take_rung(a: &Lent, held: usize, size: usize, align: usize, base: usize) 
     if Arena::PLACES <= h.count {
         return None;
     }
-    let start = lowest_place(a, larger(Arena::STEP, align), n)?;
+    let start = lowest_place(a, Arena::STEP.max(align), n)?;
     Some(Chunk {
         start,
         size: n,

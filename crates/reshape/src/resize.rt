@@ -15,12 +15,6 @@ use calls::allocate::allocate_in_full;
 use calls::bytes::carry;
 use calls::refusals::{change_answer, lent_sound};
 
-fn smaller(a: usize, b: usize) -> usize
-    ensures { result ≡ min a b }
-{
-    if a < b { a } else { b }
-}
-
 // Where the block of a size above 0 stands; no byte is carried yet.
 fn resized_block(
     a: &Sound,
@@ -64,7 +58,7 @@ pub fn resize_placed(
     let Ok(to) = got.answer else {
         return got;
     };
-    carry(region, offset, to, smaller(old, new));
+    carry(region, offset, to, old.min(new));
     got
 }
 

@@ -8,7 +8,6 @@ ghost use Rattle.calls.specs.Shrink.{shrunk_in_place, shrink_in, shrink_of, shri
 ghost use Rattle.calls.specs.Inner.{FastBy, AnsweredBy, ShrinkTested};
 
 use arena::change::Change;
-use arena::sizing::larger;
 use arena::sound::Sound;
 use arena::{Arena, Outcome};
 use calls::Answered;
@@ -66,7 +65,7 @@ pub fn shrunk_block(
     ensures { AnsweredBy (λ r. given None r (shrink_in r.head (held_of r) offset old old_align new new_align)) (lent_of a.now.lent) result }
 {
     if new_align <= old_align {
-        let d = rounding::down_to_power(old - new, larger(new_align, a.lent.head.minimum));
+        let d = rounding::down_to_power(old - new, new_align.max(a.lent.head.minimum));
         return shrunk_in_place(a, offset, old, d);
     }
     if rounding::is_multiple_of_power(offset, new_align) {
@@ -130,7 +129,7 @@ fn shrink_fast(
     if !is_last_block(a, offset, old, old_align) {
         return None;
     }
-    let d = rounding::down_to_power(old - new, larger(new_align, a.lent.head.minimum));
+    let d = rounding::down_to_power(old - new, new_align.max(a.lent.head.minimum));
     if d + d < old {
         return None;
     }

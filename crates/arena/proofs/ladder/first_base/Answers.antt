@@ -14,7 +14,7 @@ current-requires c = c.requires.count_bound
 
 pub returns-in_default : goal.returns-in_default
 returns-in_default c =
-    c.larger-floor.ensures ∙ sym (first-base-none _ _ (none-current _ (sym c.current.ensures ∙ c.in_default.is)))
+    c.max-floor.ensures ∙ sym (first-base-none _ _ (none-current _ (sym c.current.ensures ∙ c.in_default.is)))
 
 pub overflow_mul-c : goal.overflow_mul-c
 overflow_mul-c c =
@@ -23,6 +23,6 @@ overflow_mul-c c =
 
 pub returns : goal.returns
 returns c =
-    c.larger.ensures
-    ∙ ap (max (2 * c.in-Some.c.size)) c.larger-floor.ensures
+    c.max.ensures
+    ∙ ap (max (2 * c.in-Some.c.size)) c.max-floor.ensures
     ∙ sym (first-base-current _ _ (current-is _ (sym c.current.ensures ∙ c.in-Some.is)))

@@ -36,9 +36,9 @@ lowest_place-requires c =
 
 pub returns-in_err-start : goal.returns-in_err-start
 returns-in_err-start c =
-    let placed : (let cs = held_of (lent_of c.args.a.now) in let n = c.usable_size-n.result in rung_chunk c.args.a.now.head cs c.args.size c.args.align c.args.base ≡ option_map (new_chunk n) (lowest_place c.args.a.now.head.region cs c.larger.result n)) = rung-placed _ _ _ _ _ c.requires.held_value
+    let placed : (let cs = held_of (lent_of c.args.a.now) in let n = c.usable_size-n.result in rung_chunk c.args.a.now.head cs c.args.size c.args.align c.args.base ≡ option_map (new_chunk n) (lowest_place c.args.a.now.head.region cs c.max.result n)) = rung-placed _ _ _ _ _ c.requires.held_value
     c.usable_size-n.ensures
-    c.larger.ensures
+    c.max.ensures
     (sym c.is_under_limit.ensures ∙ c.if-not-is_under_limit.false)
     (omega (arith, length-chunks c.args.a.now.starts.now c.args.a.now.sizes.now c.args.a.now.pointers.now c.args.a.now.head.count)) in
     c.from_residual.ensures ∙ sym (placed ∙ ap (option_map (new_chunk _)) (sym c.lowest_place.ensures ∙ c.in_err-start.was))
@@ -47,14 +47,14 @@ pub overflow_add-result : goal.overflow_add-result
 overflow_add-result c =
     let align = align-open c.args.align c.requires.size_le_most.1 in
     let found = sym c.lowest_place.ensures ∙ c.in_ok-start.was in
-    let fits = (lowest-fits c.args.a.now.head.region _ _ {a = c.larger.result} (omega arith) found).1 in
+    let fits = (lowest-fits c.args.a.now.head.region _ _ {a = c.max.result} (omega arith) found).1 in
     omega (arith, fits.inside, c.requires.ready.region_bound)
 
 pub returns : goal.returns
 returns c =
-    let placed : (let cs = held_of (lent_of c.args.a.now) in let n = c.usable_size-n.result in rung_chunk c.args.a.now.head cs c.args.size c.args.align c.args.base ≡ option_map (new_chunk n) (lowest_place c.args.a.now.head.region cs c.larger.result n)) = rung-placed _ _ _ _ _ c.requires.held_value
+    let placed : (let cs = held_of (lent_of c.args.a.now) in let n = c.usable_size-n.result in rung_chunk c.args.a.now.head cs c.args.size c.args.align c.args.base ≡ option_map (new_chunk n) (lowest_place c.args.a.now.head.region cs c.max.result n)) = rung-placed _ _ _ _ _ c.requires.held_value
     c.usable_size-n.ensures
-    c.larger.ensures
+    c.max.ensures
     (sym c.is_under_limit.ensures ∙ c.if-not-is_under_limit.false)
     (omega (arith, length-chunks c.args.a.now.starts.now c.args.a.now.sizes.now c.args.a.now.pointers.now c.args.a.now.head.count)) in
     sym (placed ∙ ap (option_map (new_chunk _)) (sym c.lowest_place.ensures ∙ c.in_ok-start.was))

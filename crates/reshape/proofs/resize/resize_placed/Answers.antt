@@ -98,8 +98,8 @@ carry-requires c =
     let is =
     resize-served own s.offset s.old s.align s.new (length s.region.now) (omega (arith, c.if-old-eq0.false))
     (sym (ap (λ (o : Allocation). o.answer) answered) ∙ c.in-Ok.is) in (
-      omega (arith, is.source, c.smaller.ensures, min-le_left s.old s.new),
-      omega (arith, is.room, c.smaller.ensures, min-le_right s.old s.new),
+      omega (arith, is.source, c.min.ensures, min-le_left s.old s.new),
+      omega (arith, is.room, c.min.ensures, min-le_right s.old s.new),
     )
 
 pub returns : goal.returns
@@ -117,6 +117,6 @@ returns c =
     record {
       placed_by = answered;
       region_after = c.carry.ensures
-          ∙ ap (carried s.region.now s.offset c.in-Ok.to) c.smaller.ensures
+          ∙ ap (carried s.region.now s.offset c.in-Ok.to) c.min.ensures
           ∙ bytes-shown (λ (to : ℕ). carried s.region.now s.offset to (min s.old s.new)) s.region.now answered c.in-Ok.is;
     }

@@ -48,14 +48,14 @@ down_to_power-d-requires c =
       downwards = c.if-old-new.false;
     } in
     let r = tested.request in
-    ap one_bit c.larger.ensures ∙ power-one-bit (power-max (align-open _ r.align_allowed).power (sound-open _ r.sound).head.minimum-power)
+    ap one_bit c.max.ensures ∙ power-one-bit (power-max (align-open _ r.align_allowed).power (sound-open _ r.sound).head.minimum-power)
 
 pub overflow_add-d : goal.overflow_add-d
 overflow_add-d c =
     let own : Arena = lent_of c.args.a.now.lent in
     let last : (let s = c.args in LastBlock own s.offset s.old s.old_align) = c.is_last_block.ensures (left-true refl c.if-not-is_last_block.false) in
     let at_most : c.down_to_power-d.result ≤ c.args.old = let s = c.args in
-    omega (arith, c.down_to_power-d.ensures, down-at-most (s.old - s.new) c.larger.result) in
+    omega (arith, c.down_to_power-d.ensures, down-at-most (s.old - s.new) c.max.result) in
     omega (arith, at_most, last.size_bound)
 
 pub returns-then-d-old : goal.returns-then-d-old
@@ -77,7 +77,7 @@ overflow_add-result c =
       downwards = c.if-old-new.false;
     } in
     let at_most : c.down_to_power-d.result ≤ c.args.old = let s = c.args in
-    omega (arith, c.down_to_power-d.ensures, down-at-most (s.old - s.new) c.larger.result) in
+    omega (arith, c.down_to_power-d.ensures, down-at-most (s.old - s.new) c.max.result) in
     let t = tested in
     omega (arith, at_most, t.inside, (sound-open _ t.request.sound).head.region_bound)
 
@@ -101,7 +101,7 @@ returns c =
     let a = own in
     let d = c.down_to_power-d.result in
     let up : d ≡ given_up a.head.minimum s.old s.new s.new_align =
-    c.down_to_power-d.ensures ∙ ap (round_down (s.old - s.new)) c.larger.ensures in
+    c.down_to_power-d.ensures ∙ ap (round_down (s.old - s.new)) c.max.ensures in
     subst (λ (q : ℕ). answered_of a (record { answer = Ok q; change = Moved q }) ≡ shrink_of a a.head.region s.offset s.old s.old_align s.new s.new_align) (same_Some _ _ e)
     (placed-moved a
     (shrinks-in-place a.head (held_of a) s.offset s.old s.old_align s.new s.new_align (omega (arith, c.if-new_align-old_align.false))

@@ -20,12 +20,12 @@ use Rattle.reshape.proofs.shrink.shrunk_block.Goals as goal
 pub down_to_power-d-requires : goal.down_to_power-d-requires
 down_to_power-d-requires c =
     let align = (align-open c.args.new_align c.requires.request.align_allowed).power in
-    ap one_bit c.larger.ensures ∙ power-one-bit (power-max align (sound-open _ c.args.a.now.sound).head.minimum-power)
+    ap one_bit c.max.ensures ∙ power-one-bit (power-max align (sound-open _ c.args.a.now.sound).head.minimum-power)
 
 pub shrunk_in_place-requires : goal.shrunk_in_place-requires
 shrunk_in_place-requires c = (
   c.requires.inside,
-  omega (arith, c.down_to_power-d.ensures, down-at-most (c.args.old - c.args.new) c.larger.result),
+  omega (arith, c.down_to_power-d.ensures, down-at-most (c.args.old - c.args.new) c.max.result),
 )
 
 pub returns-then-new_align-old_align : goal.returns-then-new_align-old_align
@@ -33,7 +33,7 @@ returns-then-new_align-old_align c =
     let own : Arena = lent_of c.args.a.now.lent in
     let s = c.args in
     let up : c.down_to_power-d.result ≡ given_up own.head.minimum s.old s.new s.new_align =
-    c.down_to_power-d.ensures ∙ ap (round_down (s.old - s.new)) c.larger.ensures in
+    c.down_to_power-d.ensures ∙ ap (round_down (s.old - s.new)) c.max.ensures in
     c.shrunk_in_place.ensures
     ∙ ap (λ (d : ℕ). given None own (shrunk_in_place (held_of own) s.offset s.old d)) up
     ∙ sym (ap (given None own) (shrinks-in-place own.head (held_of own) s.offset s.old s.old_align s.new s.new_align c.if-new_align-old_align.true))
