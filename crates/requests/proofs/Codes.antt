@@ -3,16 +3,14 @@ use Prim.Native.Nat.{ℕ, ◌+◌, ◌*◌, ◌<◌}
 use native.Mathlib.Omega.{arith}
 use mathlib.Core.Bool.{Bool, true, false, cond, not, ◌&&◌}
 use mathlib.Core.List.{List, [], ◌∷◌}
-use mathlib.Core.Logic.{◌⊎◌, inl, inr}
 use mathlib.Core.Option.{none, some}
-use mathlib.Core.Path.{◌≡◌, refl}
+use mathlib.Core.Path.{◌≡◌, refl, sym}
 use lib.Dec.{eqb}
 use lib.ListN.{length}
 use borrow.Author.Tests.{eqb-true, eqb-false, ne_eqb, not-true}
 use Rattle.rounding.proofs.Tests.{and_left, and_right}
 use Rattle.requests.specs.Bytes.{byte_at}
 use Rattle.requests.specs.Request.{Form, forms, field_of, request_by, request_of}
-use Rattle.requests.specs.Front.{bad, record_front}
 use Rattle.requests.specs.Inner.{size_by}
 
 -- no form of the list has the code
@@ -38,11 +36,6 @@ absent (f ∷ fs) code t = (
   absent fs code (and_right (not (eqb code f.code)) (lacks fs code) t),
 )
 
-pub size-absent : (fs : List Form) (code : ℕ) → Absent fs code → size_by fs code ≡ 0
-unfolding size_by
-size-absent [] code h = refl
-size-absent (f ∷ fs) code h = rw (ne_eqb code f.code h.0) (size-absent fs code h.1)
-
 request-absent : (fs : List Form) (code size : ℕ) (field : ℕ → ℕ) → Absent fs code → request_by fs code size field ≡ none
 unfolding request_by
 request-absent [] code size field h = refl
@@ -61,31 +54,25 @@ unsuited (f ∷ fs) code size field d h = go (eqb code f.code) refl h (unsuited 
         (request-absent fs code size field (rw (eqb-true code f.code e) (absent fs f.code (and_left (lacks fs f.code) (distinct fs) d))))
     go false e h again = again h
 
--- a record whose length does not suit its code is bad
-pub front-unsuited : (body : List ℕ) → (length body ≡ size_by forms (byte_at body 0) → ⊥) → record_front (length body) (request_of body) ≡ bad
-unfolding distinct lacks record_front request_of
-front-unsuited body h = rw (unsuited forms (byte_at body 0) (length body) (field_of body) refl h)
-
--- a record whose code and length are known is read by them
-pub front-suited : (body : List ℕ) {code size : ℕ} → byte_at body 0 ≡ code → length body ≡ size →
-    record_front (length body) (request_of body) ≡ record_front size (request_by forms code size (field_of body))
+-- a record whose code and length are known says what they say
+pub said-suited : (body : List ℕ) {code : ℕ} → code ≡ byte_at body 0 → length body ≡ size_by forms code →
+    request_of body ≡ request_by forms code (size_by forms code) (field_of body)
 unfolding request_of
-front-suited body c s = rw (c, s)
+said-suited body c s = rw (sym c, s)
 
-pub three-or-four : (code : ℕ) → 2 < code → code < 5 → (code ≡ 3) ⊎ (code ≡ 4)
-three-or-four code low high = go (eqb code 3) refl
-  where
-    go : (b : Bool) → eqb code 3 ≡ b → (code ≡ 3) ⊎ (code ≡ 4)
-    go true e = inl (eqb-true code 3 e)
-    go false e = let h = eqb-false code 3 e in inr (omega arith)
+-- one whose length does not suit its code says no request
+pub said-unsuited : (body : List ℕ) → (length body ≡ size_by forms (byte_at body 0) → ⊥) → request_of body ≡ none
+unfolding distinct lacks request_of
+said-unsuited body h = unsuited forms (byte_at body 0) (length body) (field_of body) refl h
 
--- a record whose code no form has is bad
-pub front-absent : (body : List ℕ) → Absent forms (byte_at body 0) → record_front (length body) (request_of body) ≡ bad
-unfolding record_front request_of
-front-absent body h = rw (request-absent forms (byte_at body 0) (length body) (field_of body) h)
+-- nor does one whose code no form has
+pub said-absent : (body : List ℕ) → (0 < byte_at body 0 → 10 < byte_at body 0) → request_of body ≡ none
+unfolding request_of
+said-absent body h =
+    request-absent forms (byte_at body 0) (length body) (field_of body)
+    (λ e. omega arith, (λ e. omega arith, (λ e. omega arith, (λ e. omega arith, (λ e. omega arith, (λ e. omega arith, (λ e. omega arith, (λ e. omega arith, (λ e. omega arith, (λ e. omega arith, tt))))))))))
 
 -- a record with no byte has no code
-pub front-empty : (body : List ℕ) → length body ≡ 0 → record_front (length body) (request_of body) ≡ bad
-unfolding record_front request_of request_by
-front-empty [] e = refl
-front-empty (b ∷ body) e = absurd (omega arith)
+pub said-empty : (body : List ℕ) → length body ≡ 0 → request_of body ≡ none
+said-empty [] e = said-absent [] (λ p. absurd (omega arith))
+said-empty (b ∷ body) e = absurd (omega arith)

@@ -1,14 +1,16 @@
 -- A front that a whole record gives stays as more bytes follow, and the bytes before it was whole are fewer than the record takes: a record is
 -- looked at by its own bytes alone. Assumes nothing.
-use Prim.Native.Nat.{ℕ, ◌+◌, ◌≤◌, ◌<◌}
+use Prim.Native.Nat.{ℕ, ◌+◌, ◌-◌, ◌≤◌, ◌<◌}
 use native.Mathlib.Omega.{arith}
 use mathlib.Core.Bool.{Bool, true, false, cond}
 use mathlib.Core.List.{List, [], ◌∷◌, ◌++◌}
 use mathlib.Core.Option.{Option, none, some}
-use mathlib.Core.Path.{◌≡◌, refl, sym, ◌∙◌}
+use mathlib.Core.Path.{◌≡◌, refl, sym, ap, ◌∙◌}
 use lib.Dec.{leb}
 use lib.ListN.{length, take, drop, length-append, take-append-drop}
-use lib.Seq.{take-append-le, length-take-le}
+use lib.Seq.{take-append-le, take_all, length-take-le}
+use Rattle.std.specs.List.{slice_range}
+use Rattle.std.proofs.lemmas.Slice.{between_from_start}
 use borrow.Author.Tests.{le-leb, lt-leb, leb-true, leb-false}
 use Rattle.requests.specs.Bytes.{byte_at, then_byte}
 use Rattle.requests.specs.Request.{Request, request_of}
@@ -96,14 +98,16 @@ short-front [] two h = absurd (omega arith)
 short-front (high ∷ []) two h = absurd (omega arith)
 short-front (high ∷ (low ∷ rest)) two h = rw (lt-leb (then_byte high low) (length rest) (omega arith))
 
-pub record-front : (p : List ℕ) (n : ℕ) → n ≡ then_byte (byte_at p 0) (byte_at p 1) → 2 ≤ length p → 2 + n ≤ length p →
-    record_front (length (take n (drop 2 p))) (request_of (take n (drop 2 p))) ≡ front_of p
+-- n bytes, cut out of those after the length number n, are the record's own
+pub record-front : (p body : List ℕ) (n : ℕ) → n ≡ then_byte (byte_at p 0) (byte_at p 1) → 2 ≤ length p → n ≤ length (take (length p - 2) (drop 2 p)) →
+    body ≡ slice_range (take (length p - 2) (drop 2 p)) 0 n → front_of p ≡ record_front n (request_of body)
 unfolding front_of
-record-front [] n e two h = absurd (omega arith)
-record-front (high ∷ []) n e two h = absurd (omega arith)
-record-front (high ∷ (low ∷ rest)) n e two h =
-    let held : n ≤ length rest = omega arith in
-    rw (length-take-le n rest held, ← e, le-leb n (length rest) held)
+record-front [] body n e two h own = absurd (omega arith)
+record-front (high ∷ []) body n e two h own = absurd (omega arith)
+record-front (high ∷ (low ∷ rest)) body n e two h own =
+    let all : take (length (high ∷ (low ∷ rest)) - 2) rest ≡ rest = take_all _ rest (omega arith) in
+    let held : n ≤ length rest = omega (arith, ap length all) in
+    rw (← e, le-leb n (length rest) held, own ∙ between_from_start _ n ∙ ap (take n) all)
 
 -- a record's own bytes say its request
 pub front-own : (p : List ℕ) {size : ℕ} {r : Request} → front_of p ≡ whole size r → front_of (take size p) ≡ whole size r

@@ -13,7 +13,7 @@ use crate::header::{HEADER, Header, MOST_REGION, read_header};
 use crate::print::{put_held, put_numbered, put_text};
 use crate::read::read_front;
 use crate::window::{LINE, Progress, run_window};
-use crate::{Front, Stage};
+use crate::{Ending, Front, Stage};
 use arena::creation::emptied;
 use arena::ladder::held_bytes;
 use arena::sound::is_sound;
@@ -62,19 +62,15 @@ pub fn start() -> State
 
 // Whether feeding takes what it can: bytes for the longest region, 65,536, are lent, the record is sound and its region among them, and the number can count
 // every request of the window.
-pub fn is_ready(arena: Arena, number: usize, lent: &[u8], window: &[u8]) -> bool
-    ensures { result ≡ ready arena number (length lent.now) (length window.now) }
+#[tactic(auto, unfolding(crate::specs::Feed::ready))]
+pub fn is_ready(state: &State, lent: &[u8], window: &[u8]) -> bool
+    ensures { result ≡ ready state.now.arena state.now.number (length lent.now) (length window.now) }
 {
-    if lent.len() < MOST_REGION {
-        return false;
-    }
-    if lent.len() < arena.head.region {
-        return false;
-    }
-    if u64::MAX as usize - window.len() < number {
-        return false;
-    }
-    is_sound(arena.head, &arena.starts, &arena.sizes, &arena.pointers)
+    let a = &state.arena;
+    MOST_REGION <= lent.len()
+        && a.head.region <= lent.len()
+        && state.number <= usize::MAX - window.len()
+        && is_sound(a.head, &a.starts, &a.sizes, &a.pointers)
 }
 
 // Nothing is taken.
@@ -99,7 +95,7 @@ fn open(state: State, window: &[u8], out: &mut [u8]) -> Fed
     if out.len() < LINE {
         return stay(state);
     }
-    let Header::Good(minimum, region) = read_header(window) else {
+    let Some(Header { minimum, region }) = read_header(window) else {
         let written = put_text(out, 0, b"0 bad header\n");
         let none = no_arena();
         return Fed {
@@ -135,15 +131,11 @@ fn run_lent(arena: Arena, lent: &mut [u8], number: usize, window: &[u8], out: &m
     run_window(arena, &mut lent[..region], number, window, out)
 }
 
+#[tactic(auto, unfolding(crate::specs::Inner::front_said))]
 fn is_bad(front: Front) -> bool
     ensures { result ≡ is_bad (front_said front) }
 {
-    match front {
-        Front::Nothing => false,
-        Front::Part => false,
-        Front::Bad => true,
-        Front::Whole(_, _) => false,
-    }
+    matches!(front, Err(Ending::BadRecord))
 }
 
 // The whole records of the window are run. A bad one after them stops the run.
@@ -156,8 +148,7 @@ fn run_on(state: State, lent: &mut [u8], window: &[u8], out: &mut [u8]) -> Fed
     let next = p.number;
     let taken = p.taken;
     if LINE <= out.len() - p.written {
-        let front = read_front(&window[taken..]);
-        if is_bad(front) {
+        if is_bad(read_front(&window[taken..])) {
             let written = put_numbered(out, p.written, next, b" bad record\n");
             return Fed {
                 state: State {
@@ -198,7 +189,7 @@ pub fn feed(state: State, lent: &mut [u8], window: &[u8], out: &mut [u8]) -> Fed
     ensures came { Came (step_of (ready state.arena state.number (length lent.old) (length window.now)) (stage_said state.stage) lent.old state.number (memory_in state.arena lent.old) window.now (length out.old)) lent.old out.old result lent.new out.new }
     ensures taken_in_bounds { (result.taken ≤ length window.now) × (result.written ≤ length out.new) }
 {
-    if !is_ready(state.arena, state.number, lent, window) {
+    if !is_ready(&state, lent, window) {
         return stay(state);
     }
     let stage = state.stage;
@@ -214,12 +205,11 @@ fn put_unfinished(out: &mut [u8], number: usize, rest: &[u8]) -> usize
     requires { end_room ≤ length out.old }
     ensures { Put out.old 0 (ending_text running number rest.now) out.new result }
 {
-    let front = read_front(rest);
-    match front {
-        Front::Nothing => 0,
-        Front::Part => put_numbered(out, 0, number, b" cut off\n"),
-        Front::Bad => put_numbered(out, 0, number, b" bad record\n"),
-        Front::Whole(_, _) => 0,
+    match read_front(rest) {
+        Ok(_) => 0,
+        Err(Ending::Complete) => 0,
+        Err(Ending::CutOff) => put_numbered(out, 0, number, b" cut off\n"),
+        Err(Ending::BadRecord) => put_numbered(out, 0, number, b" bad record\n"),
     }
 }
 

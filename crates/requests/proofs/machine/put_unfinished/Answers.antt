@@ -1,32 +1,22 @@
 -- `requests::machine::put_unfinished` meets its contract, by what stands at the front. Assumes nothing.
-use mathlib.Core.Path.{◌≡◌, sym, ap, ◌∙◌}
-use Rattle.requests.specs.Front.{front_of}
 use Rattle.requests.specs.Inner.{front_said}
 use Rattle.requests.specs.Text.{ending_line}
 use Rattle.requests.specs.Machine.{ending_at, ending_text}
 use Rattle.requests.proofs.Feeds.{put-none}
 use Rattle.requests.proofs.machine.put_unfinished.Goals as goal
 
-pub returns-in-Nothing : goal.returns-in-Nothing
+pub returns-in-Ok : goal.returns-in-Ok
 unfolding front_said ending_line ending_at ending_text
-returns-in-Nothing c =
-    let front-said : front_of c.args.rest.now ≡ front_said c.read_front-front.result = sym c.read_front-front.ensures in
-    rw (front-said ∙ ap front_said c.in-Nothing.is) (put-none c.args.out.now)
+returns-in-Ok c = rw (← c.in-Ok.ensures) (put-none c.args.out.now)
 
-pub returns-in-Part : goal.returns-in-Part
+pub returns-in-Err-Complete : goal.returns-in-Err-Complete
 unfolding front_said ending_line ending_at ending_text
-returns-in-Part c =
-    let front-said : front_of c.args.rest.now ≡ front_said c.read_front-front.result = sym c.read_front-front.ensures in
-    rw (front-said ∙ ap front_said c.in-Part.is) c.put_numbered.ensures
+returns-in-Err-Complete c = rw (← (rw c.in-Err-Complete.field-0-is at c.in-Err-Complete.ensures)) (put-none c.args.out.now)
 
-pub returns-in-Bad : goal.returns-in-Bad
+pub returns-in-Err-CutOff : goal.returns-in-Err-CutOff
 unfolding front_said ending_line ending_at ending_text
-returns-in-Bad c =
-    let front-said : front_of c.args.rest.now ≡ front_said c.read_front-front.result = sym c.read_front-front.ensures in
-    rw (front-said ∙ ap front_said c.in-Bad.is) c.put_numbered-in-Bad.ensures
+returns-in-Err-CutOff c = rw (← (rw c.in-Err-CutOff.field-0-is at c.in-Err-CutOff.ensures)) c.put_numbered.ensures
 
-pub returns-in-Whole : goal.returns-in-Whole
+pub returns-in-Err-BadRecord : goal.returns-in-Err-BadRecord
 unfolding front_said ending_line ending_at ending_text
-returns-in-Whole c =
-    let front-said : front_of c.args.rest.now ≡ front_said c.read_front-front.result = sym c.read_front-front.ensures in
-    rw (front-said ∙ ap front_said c.in-Whole.is) (put-none c.args.out.now)
+returns-in-Err-BadRecord c = rw (← (rw c.in-Err-BadRecord.field-0-is at c.in-Err-BadRecord.ensures)) c.put_numbered-in-Err-BadRecord.ensures

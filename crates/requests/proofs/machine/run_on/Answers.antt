@@ -1,11 +1,9 @@
 -- `requests::machine::run_on` meets its contract: by whether the output has room for a line, and a bad record stands at the front. Assumes nothing.
-use Prim.Native.Nat.{◌-◌}
-use native.Mathlib.Nat.{le_of_eq}
 use mathlib.Core.Path.{◌≡◌, sym, ap, ◌∙◌}
-use lib.ListN.{length, drop, length-drop}
-use lib.Seq.{take_all}
+use lib.ListN.{drop}
 use Rattle.requests.specs.Front.{front_of}
 use Rattle.requests.specs.Feed.{is_bad}
+use Rattle.requests.proofs.Stepping.{not_taken}
 use Rattle.requests.proofs.Feeds.{came-bad, came-good, came-no-room}
 use Rattle.requests.proofs.machine.run_on.Goals as goal
 
@@ -24,7 +22,7 @@ returns-then-is_bad c =
     let window = c.args.window.now in
     sym (
     c.is_bad.ensures
-    ∙ ap is_bad (c.read_front-front.ensures ∙ ap front_of (take_all (length window - taken) (drop taken window) (le_of_eq (length-drop taken window))))
+    ∙ ap is_bad (c.read_front.ensures ∙ ap front_of (not_taken window taken))
     ) in
     came-bad c.args.state.arena c.args.state.number c.args.lent.now c.args.window.now c.args.out.now c.run_lent-p.ensures.through_lent
     c.run_lent-p.auto.out c.if-out-p-ge-LINE.true (front-tested ∙ c.if-is_bad.true) c.put_numbered-written.ensures
@@ -35,7 +33,7 @@ returns-else-is_bad c =
     let window = c.args.window.now in
     sym (
     c.is_bad.ensures
-    ∙ ap is_bad (c.read_front-front.ensures ∙ ap front_of (take_all (length window - taken) (drop taken window) (le_of_eq (length-drop taken window))))
+    ∙ ap is_bad (c.read_front.ensures ∙ ap front_of (not_taken window taken))
     ) in
     came-good c.args.state.arena c.args.state.number c.args.lent.now c.args.window.now c.args.out.now c.run_lent-p.ensures.through_lent
     c.run_lent-p.auto.out c.if-out-p-ge-LINE.true (front-tested ∙ c.if-is_bad.false)
