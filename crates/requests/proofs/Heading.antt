@@ -33,13 +33,6 @@ pub short-header : (p : List ℕ) → length p < header_size → header_of p ≡
 unfolding header_of good_header only
 short-header p h = rw (lt-leb header_size (length p) h)
 
--- the header of six bytes or more, by its tests
-pub header-by : (p : List ℕ) {version minimum region : Bool} → header_size ≤ length p → eqb (byte_at p 0) 1 ≡ version →
-    allowed_minimum (byte_at p 1) ≡ minimum → leb (number32 p 2) most_region ≡ region →
-    header_of p ≡ only (version && (minimum && region)) (record { minimum = byte_at p 1; region = number32 p 2 })
-unfolding header_of good_header
-header-by p h v m r = rw (le-leb header_size (length p) h, v, m, r)
-
 -- what a run comes to that has read these bytes and no more
 unfoldable pub opened_by : List ℕ → List ℕ → Machine
 opened_by lent bytes =

@@ -78,8 +78,8 @@ Decodes code r = MatchResult r (λ kind. code_of kind ≡ code) (λ _. 0 < code 
 abbrev pub Says : ℕ → List ℕ → Code-as-Request → Type 0
 Says code body r = request_by forms code (size_by forms code) (field_of body) ≡ some (request_said r)
 
-abbrev pub gives_bad_record : NoRequest → Ending → Type 0
-gives_bad_record _ e = e ≡ BadRecord
+abbrev pub GivesBadRecord : NoRequest → Ending → Type 0
+GivesBadRecord _ e = e ≡ BadRecord
 
 -- a text stands in the output from a place on, the rest is as it was, and the next place is past it
 pub record Put (before : List ℕ) (at : ℕ) (text after : List ℕ) (next : ℕ) : Type 0 where

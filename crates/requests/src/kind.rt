@@ -1,10 +1,10 @@
 // The ten calls that a record may ask for, by their codes.
-ghost use Rattle.std.specs.Prelude.{◌≡◌};
-ghost use Rattle.requests.specs.Request.{forms};
+ghost use Rattle.std.specs.Prelude.{◌≡◌, ◌<◌};
+ghost use Rattle.requests.specs.Request.{forms, field_of};
 ghost use Rattle.requests.specs.Inner.{code_of, Decodes, size_by, Says};
 
 use crate::Request;
-use crate::read::field;
+use crate::read::number_at;
 
 #[derive(Clone, Copy)]
 pub enum Kind {
@@ -44,6 +44,14 @@ impl TryFrom<u8> for Kind {
             _ => Err(BadRecord),
         }
     }
+}
+
+// A field of a record's own bytes, from 0.
+fn field(body: &[u8], k: usize) -> usize
+    requires { k < 8 }
+    ensures { result ≡ field_of body.now k }
+{
+    number_at(body, 1 + 4 * k)
 }
 
 impl Kind {

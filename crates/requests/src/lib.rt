@@ -2,7 +2,7 @@
 #![tactic(auto)]
 
 pub mod header;
-pub mod kind;
+mod kind;
 pub mod machine;
 pub mod print;
 pub mod read;

@@ -5,15 +5,16 @@ ghost use Rattle.arena.specs.Record.{holding};
 ghost use Rattle.arena.specs.Creation.{fresh_head};
 ghost use Rattle.arena.specs.Sound.{sound_of};
 ghost use Rattle.requests.specs.Machine.{ending_text, heading, running, stopped};
-ghost use Rattle.requests.specs.Window.{passed_of};
-ghost use Rattle.requests.specs.Inner.{Put, front_said};
+ghost use Rattle.requests.specs.Front.{front_of};
+ghost use Rattle.requests.specs.Window.{line_room, passed_of};
+ghost use Rattle.requests.specs.Inner.{Put};
 ghost use Rattle.requests.specs.Feed.{is_bad, step_at, step_of, ready, final_text, end_room, stage_said, memory_in, start_state, ThroughLent, Came};
 
 use crate::header::{HEADER, Header, MOST_REGION, read_header};
 use crate::print::{put_held, put_numbered, put_text};
 use crate::read::read_front;
 use crate::window::{LINE, Progress, run_window};
-use crate::{Ending, Front, Stage};
+use crate::{Ending, Stage};
 use arena::creation::emptied;
 use arena::ladder::held_bytes;
 use arena::sound::is_sound;
@@ -52,11 +53,10 @@ fn no_arena() -> Arena
 pub fn start() -> State
     ensures { result ≡ start_state }
 {
-    let arena = no_arena();
     State {
         stage: Stage::Heading,
         number: 1,
-        arena,
+        arena: no_arena(),
     }
 }
 
@@ -97,24 +97,22 @@ fn open(state: State, window: &[u8], out: &mut [u8]) -> Fed
     }
     let Some(Header { minimum, region }) = read_header(window) else {
         let written = put_text(out, 0, b"0 bad header\n");
-        let none = no_arena();
         return Fed {
             state: State {
                 stage: Stage::Stopped,
                 number: 1,
-                arena: none,
+                arena: no_arena(),
             },
             taken: HEADER,
             written,
         };
     };
     let made = Arena::with_min_align_and_capacity(region, minimum, 0);
-    let arena = made.arena;
     Fed {
         state: State {
             stage: Stage::Running,
             number: 1,
-            arena,
+            arena: made.arena,
         },
         taken: HEADER,
         written: 0,
@@ -131,11 +129,12 @@ fn run_lent(arena: Arena, lent: &mut [u8], number: usize, window: &[u8], out: &m
     run_window(arena, &mut lent[..region], number, window, out)
 }
 
+// Whether a bad record comes next, and its line has room.
 #[tactic(auto, unfolding(crate::specs::Inner::front_said))]
-fn is_bad(front: Front) -> bool
-    ensures { result ≡ is_bad (front_said front) }
+fn is_bad_next(room: usize, rest: &[u8]) -> bool
+    ensures { result ≡ leb line_room room && is_bad (front_of rest.now) }
 {
-    matches!(front, Err(Ending::BadRecord))
+    LINE <= room && matches!(read_front(rest), Err(Ending::BadRecord))
 }
 
 // The whole records of the window are run. A bad one after them stops the run.
@@ -143,32 +142,32 @@ fn run_on(state: State, lent: &mut [u8], window: &[u8], out: &mut [u8]) -> Fed
     requires { (sound_of state.arena ≡ true) × (state.arena.head.region ≤ length lent.old) × (state.number + length window.now < 2 ^ 64) }
     ensures { Came (step_at running lent.old state.number (memory_in state.arena lent.old) window.now (length out.old)) lent.old out.old result lent.new out.new }
 {
-    let p = run_lent(state.arena, lent, state.number, window, out);
-    let held = p.arena;
-    let next = p.number;
-    let taken = p.taken;
-    if LINE <= out.len() - p.written {
-        if is_bad(read_front(&window[taken..])) {
-            let written = put_numbered(out, p.written, next, b" bad record\n");
-            return Fed {
-                state: State {
-                    stage: Stage::Stopped,
-                    number: next,
-                    arena: held,
-                },
-                taken: window.len(),
-                written,
-            };
-        }
+    let Progress {
+        arena,
+        number,
+        taken,
+        written,
+    } = run_lent(state.arena, lent, state.number, window, out);
+    if is_bad_next(out.len() - written, &window[taken..]) {
+        let end = put_numbered(out, written, number, b" bad record\n");
+        return Fed {
+            state: State {
+                stage: Stage::Stopped,
+                number,
+                arena,
+            },
+            taken: window.len(),
+            written: end,
+        };
     }
     Fed {
         state: State {
             stage: Stage::Running,
-            number: next,
-            arena: held,
+            number,
+            arena,
         },
         taken,
-        written: p.written,
+        written,
     }
 }
 
@@ -192,8 +191,7 @@ pub fn feed(state: State, lent: &mut [u8], window: &[u8], out: &mut [u8]) -> Fed
     if !is_ready(&state, lent, window) {
         return stay(state);
     }
-    let stage = state.stage;
-    match stage {
+    match state.stage {
         Stage::Heading => open(state, window, out),
         Stage::Running => run_on(state, lent, window, out),
         Stage::Stopped => swallow(state, window),
@@ -236,12 +234,11 @@ pub fn finish(state: State, rest: &[u8], out: &mut [u8]) -> usize
     if out.len() < END {
         return 0;
     }
-    let a = state.arena;
+    let a = &state.arena;
     if !is_sound(a.head, &a.starts, &a.sizes, &a.pointers) {
         return 0;
     }
-    let stage = state.stage;
-    let ended = put_ending(out, stage, state.number, rest);
+    let ended = put_ending(out, state.stage, state.number, rest);
     let held = held_bytes(a.head, &a.starts, &a.sizes, &a.pointers);
     put_held(out, ended, held, a.head.count)
 }

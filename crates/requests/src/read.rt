@@ -1,9 +1,9 @@
 // Reading a record. A length number says how far it reaches; its own bytes begin with the code.
 ghost use Rattle.std.specs.Prelude.{◌≡◌, ◌<◌};
 ghost use Rattle.requests.specs.Bytes.{byte_at, number32};
-ghost use Rattle.requests.specs.Request.{field_of, request_of};
+ghost use Rattle.requests.specs.Request.{request_of};
 ghost use Rattle.requests.specs.Front.{front_of};
-ghost use Rattle.requests.specs.Inner.{front_said, request_read, gives_bad_record};
+ghost use Rattle.requests.specs.Inner.{front_said, request_read, GivesBadRecord};
 
 use crate::kind::{BadRecord, Kind};
 use crate::{Ending, Front, Record, Request};
@@ -30,16 +30,8 @@ pub fn number_at(bytes: &[u8], i: usize) -> usize
     u32::from_be_bytes(four) as usize
 }
 
-// A field of a record's own bytes, from 0.
-pub fn field(body: &[u8], k: usize) -> usize
-    requires { k < 8 }
-    ensures { result ≡ field_of body.now k }
-{
-    number_at(body, 1 + 4 * k)
-}
-
 impl From<BadRecord> for Ending {
-    ghost from_gives = { gives_bad_record };
+    ghost from_gives = { GivesBadRecord };
 
     fn from(_: BadRecord) -> Ending {
         Ending::BadRecord

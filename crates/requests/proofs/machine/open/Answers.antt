@@ -28,7 +28,7 @@ returns-in_default c lent =
     (record {
       stage = refl;
       number = refl;
-      memory = no-memory lent c.no_arena-none.result c.no_arena-none.ensures;
+      memory = no-memory lent c.no_arena.result c.no_arena.ensures;
       beyond = refl;
       taken = refl;
       put = c.put_text-written.ensures;
