@@ -1,18 +1,17 @@
 -- The header in pieces: its first six bytes settle it, whatever follows, and with fewer it is kept. Assumes nothing.
 use Prim.Native.Nat.{ℕ, ◌≤◌, ◌<◌}
 use native.Mathlib.Omega.{arith}
-use mathlib.Core.Bool.{Bool, true, false, ◌&&◌, cond}
+use mathlib.Core.Bool.{Bool, true, false, cond}
 use mathlib.Core.List.{List, [], ◌∷◌, ◌++◌, append_assoc, append-nil}
 use mathlib.Core.Option.{none}
 use mathlib.Core.Path.{◌≡◌, refl}
-use lib.Dec.{ltb, leb, eqb}
+use lib.Dec.{ltb}
 use lib.ListN.{length, drop, length-append, get_or-append}
 use lib.Seq.{drop_at}
 use borrow.Author.Tests.{le-leb, lt-leb, lt-ltb, le-ltb, ltb-true, ltb-false}
 use Rattle.rounding.specs.First.{only}
-use Rattle.arena.specs.Sound.{allowed_minimum}
-use Rattle.requests.specs.Bytes.{byte_at, number32}
-use Rattle.requests.specs.Header.{header_size, most_region, good_header, header_of, memory_for}
+use Rattle.requests.specs.Bytes.{number32}
+use Rattle.requests.specs.Header.{header_size, good_header, header_of, memory_for}
 use Rattle.requests.specs.Machine.{Machine, heading, machine_at, headed, header_fed, fed_at, fed}
 
 pub header-stays : (p q : List ℕ) → header_size ≤ length p → header_of (p ++ q) ≡ header_of p
