@@ -4,7 +4,7 @@ use native.Mathlib.Omega.{arith}
 use mathlib.Core.Bool.{Bool, true, false, cond, not, ◌&&◌}
 use mathlib.Core.List.{List, [], ◌∷◌}
 use mathlib.Core.Option.{none, some}
-use mathlib.Core.Path.{◌≡◌, refl, sym}
+use mathlib.Core.Path.{◌≡◌, refl}
 use lib.Dec.{eqb}
 use lib.ListN.{length}
 use borrow.Author.Tests.{eqb-true, eqb-false, ne_eqb, not-true}
@@ -54,13 +54,7 @@ unsuited (f ∷ fs) code size field d h = go (eqb code f.code) refl h (unsuited 
         (request-absent fs code size field (rw (eqb-true code f.code e) (absent fs f.code (and_left (lacks fs f.code) (distinct fs) d))))
     go false e h again = again h
 
--- a record whose code and length are known says what they say
-pub said-suited : (body : List ℕ) {code : ℕ} → code ≡ byte_at body 0 → length body ≡ size_by forms code →
-    request_of body ≡ request_by forms code (size_by forms code) (field_of body)
-unfolding request_of
-said-suited body c s = rw (sym c, s)
-
--- one whose length does not suit its code says no request
+-- a record whose length does not suit its code says no request
 pub said-unsuited : (body : List ℕ) → (length body ≡ size_by forms (byte_at body 0) → ⊥) → request_of body ≡ none
 unfolding distinct lacks request_of
 said-unsuited body h = unsuited forms (byte_at body 0) (length body) (field_of body) refl h

@@ -17,7 +17,7 @@ use Rattle.requests.specs.declared.kind.Kind.{Kind}
 use Rattle.requests.specs.declared.kind.Kind.TheVariants.{Allocate as Allocate·kind, Free as Free·kind, Grow as Grow·kind, Shrink as Shrink·kind, Reset as Reset·kind, SetLimit as SetLimit·kind, NoLimit as NoLimit·kind, AllocateWithToken as AllocateWithToken·kind, Cancel as Cancel·kind, Resize as Resize·kind}
 use Rattle.requests.specs.declared.header.Header.{Header as Code-as-Header}
 use Rattle.requests.specs.declared.run.Ran.{Ran as Code-as-Ran}
-use Rattle.requests.specs.Request.{Request, allocate, free, grow, shrink, reset, set_limit, no_limit, allocate_with_token, cancel, resize, Form, forms, field_of, request_by}
+use Rattle.requests.specs.Request.{Request, allocate, free, grow, shrink, reset, set_limit, no_limit, allocate_with_token, cancel, resize, Form}
 use Rattle.requests.specs.Run.{Reply, at_offset, done, refused, given_reply, answer_reply, Ran, ran_to}
 use Rattle.requests.specs.Front.{Front, nothing, part, bad, whole}
 use Rattle.requests.specs.Header.{Header}
@@ -74,10 +74,7 @@ code_of Resize·kind = 10
 abbrev pub Decodes : ℕ → Result Kind NoRequest → Type 0
 Decodes code r = MatchResult r (λ kind. code_of kind ≡ code) (λ _. 0 < code → 10 < code)
 
--- a record of this code and of the length that suits it says this request
-abbrev pub Says : ℕ → List ℕ → Code-as-Request → Type 0
-Says code body r = request_by forms code (size_by forms code) (field_of body) ≡ some (request_said r)
-
+-- no request, so a bad record ends the run
 abbrev pub GivesBadRecord : NoRequest → Ending → Type 0
 GivesBadRecord _ e = e ≡ BadRecord
 

@@ -1,10 +1,11 @@
 // The ten calls that a record may ask for, by their codes.
-ghost use Rattle.std.specs.Prelude.{◌≡◌, ◌<◌};
-ghost use Rattle.requests.specs.Request.{forms, field_of};
-ghost use Rattle.requests.specs.Inner.{code_of, Decodes, size_by, Says};
+ghost use Rattle.std.specs.Prelude.{◌≡◌, ◌+◌, ◌*◌, ◌≤◌, length};
+ghost use Rattle.std.proofs.Math.Option.{some};
+ghost use Rattle.requests.specs.Bytes.{byte_at};
+ghost use Rattle.requests.specs.Request.{forms, field_of, request_of};
+ghost use Rattle.requests.specs.Inner.{request_said, code_of, Decodes, size_by};
 
 use crate::Request;
-use crate::read::number_at;
 
 #[derive(Clone, Copy)]
 pub enum Kind {
@@ -46,12 +47,14 @@ impl TryFrom<u8> for Kind {
     }
 }
 
-// A field of a record's own bytes, from 0.
+// A field that the record has, from 0. No length is asked again, as `number_at` has to: a request would take some 50 instructions more.
+#[tactic(auto, unfolding(crate::specs::Bytes::number32))]
 fn field(body: &[u8], k: usize) -> usize
-    requires { k < 8 }
+    requires { 4 * k + 5 ≤ length body.now }
     ensures { result ≡ field_of body.now k }
 {
-    number_at(body, 1 + 4 * k)
+    let at = 1 + 4 * k;
+    u32::from_be_bytes([body[at], body[at + 1], body[at + 2], body[at + 3]]) as usize
 }
 
 impl Kind {
@@ -71,9 +74,10 @@ impl Kind {
     }
 
     // The request that a record of this kind says by its fields.
-    #[tactic(auto, unfolding(crate::specs::Inner::size_by, crate::specs::Request::request_by, crate::specs::Inner::request_said))]
+    #[tactic(auto, unfolding(crate::specs::Inner::size_by, crate::specs::Inner::request_said, crate::specs::Request::request_by, crate::specs::Request::request_of))]
     pub fn request(self, body: &[u8]) -> Request
-        ensures { Says (code_of self) body.now result }
+        requires { (code_of self ≡ byte_at body.now 0) × (length body.now ≡ size_by forms (code_of self)) }
+        ensures { request_of body.now ≡ some (request_said result) }
     {
         match self {
             Kind::Allocate => Request::Allocate {

@@ -3,7 +3,7 @@ use Rattle.std.proofs.Common.{arith, sym, ap, ◌∙◌}
 use Rattle.std.proofs.lemmas.Result.{err_from_is_err_and}
 use Rattle.requests.specs.Request.{forms}
 use Rattle.requests.specs.Inner.{request_read, size_by}
-use Rattle.requests.proofs.Codes.{said-suited, said-unsuited, said-absent, said-empty}
+use Rattle.requests.proofs.Codes.{said-unsuited, said-absent, said-empty}
 use Rattle.requests.proofs.read.read_record.Goals as goal
 
 pub returns-in_default : goal.returns-in_default
@@ -23,4 +23,4 @@ returns-then-body-length c =
 
 pub returns : goal.returns
 unfolding request_read
-returns c = sym (said-suited c.args.body.now c.in_ok-kind.ensures (c.if-body-length.false ∙ c.length.ensures) ∙ c.request.ensures)
+returns c = sym c.request.ensures
