@@ -39,6 +39,7 @@ impl From<BadRecord> for Ending {
 }
 
 // A whole record, by its own bytes.
+#[tactic(auto, unfolding(crate::specs::Inner::request_read, crate::specs::Inner::size_by, crate::specs::Request::request_by, crate::specs::Request::request_of))]
 fn read_record(body: &[u8]) -> Result<Request, BadRecord>
     ensures { request_read result ≡ request_of body.now }
 {
@@ -53,6 +54,7 @@ fn read_record(body: &[u8]) -> Result<Request, BadRecord>
 }
 
 // What stands at the front. A record is looked at only once it is whole, so that one that is cut is never called bad.
+#[tactic(auto, unfolding(crate::specs::Inner::front_said, crate::specs::Inner::request_read, crate::specs::Front::front_of, crate::specs::Front::record_front))]
 pub fn read_front(bytes: &[u8]) -> Front
     ensures { front_said result ≡ front_of bytes.now }
 {
