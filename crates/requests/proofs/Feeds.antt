@@ -171,35 +171,33 @@ module _ (a : Arena) (n : ℕ) (lent window out₀ : List ℕ) {got : Progress} 
         put = t.through.put;
       })
 
-  front-there : front_of (drop came.taken window) ≡ front_of (drop got.taken window)
+  -- the code's test is the definition's
+  tested : (leb line_room (length out - got.written) && is_bad (front_of (drop got.taken window))) ≡ bad_next (length out₀) window came
   unfolding came
-  front-there = ap (λ (k : ℕ). front_of (drop k window)) (sym t.through.taken)
+  tested =
+      let room : length out - got.written ≡ length out₀ - length came.text = omega (arith, ends_at, same) in
+      rw (room, t.through.taken)
 
-  pub came-no-room : length out - got.written < line_room →
+  pub came-good : leb line_room (length out - got.written) && is_bad (front_of (drop got.taken window)) ≡ false →
       Came (step_at running lent n (memory_in a lent) window (length out₀)) lent out₀
       (record { state = record { stage = Running; number = got.number; arena = got.arena }; taken = got.taken; written = got.written }) lent' out
-  came-no-room r = runs_on (rw (lt-leb line_room (length out₀ - length came.text) (omega (arith, ends_at, same, r))))
+  came-good b = runs_on (sym tested ∙ b)
 
-  pub came-good : line_room ≤ length out - got.written → is_bad (front_of (drop got.taken window)) ≡ false →
-      Came (step_at running lent n (memory_in a lent) window (length out₀)) lent out₀
-      (record { state = record { stage = Running; number = got.number; arena = got.arena }; taken = got.taken; written = got.written }) lent' out
-  came-good r b =
-      runs_on (rw (le-leb line_room (length out₀ - length came.text) (omega (arith, ends_at, same, r)), front-there) b)
-
-  pub came-bad : {out' : List ℕ} {w : ℕ} → line_room ≤ length out - got.written → is_bad (front_of (drop got.taken window)) ≡ true →
+  pub came-bad : {out' : List ℕ} {w : ℕ} → leb line_room (length out - got.written) && is_bad (front_of (drop got.taken window)) ≡ true →
       Put out got.written (decimal got.number ++ bad_record_text) out' w →
       Came (step_at running lent n (memory_in a lent) window (length out₀)) lent out₀
       (record { state = record { stage = Stopped; number = got.number; arena = got.arena }; taken = length window; written = w }) lent' out'
   unfolding after_passed stage_said came ending_line
-  came-bad r b q =
-      rw (by-test {stops = true} (rw (le-leb line_room (length out₀ - length came.text) (omega (arith, ends_at, same, r)), front-there) b))
+  came-bad b q =
+      let room = leb-true line_room (length out - got.written) (and_left (leb line_room (length out - got.written)) _ b) in
+      rw (by-test {stops = true} (sym tested ∙ b))
       (record {
         stage = refl;
         number = t.through.number;
         memory = t.through.memory;
         beyond = t.beyond;
         taken = refl;
-        put = rw (sym t.through.number) (put_then (omega (arith, ends_at, same, r)) t.through.put q);
+        put = rw (sym t.through.number) (put_then (omega (arith, ends_at, same, room)) t.through.put q);
       })
 
 -- a state that is ready

@@ -1,18 +1,17 @@
 -- The header in pieces: its first six bytes settle it, whatever follows, and with fewer it is kept. Assumes nothing.
 use Prim.Native.Nat.{ℕ, ◌≤◌, ◌<◌}
 use native.Mathlib.Omega.{arith}
-use mathlib.Core.Bool.{Bool, true, false, ◌&&◌, cond}
+use mathlib.Core.Bool.{Bool, true, false, cond}
 use mathlib.Core.List.{List, [], ◌∷◌, ◌++◌, append_assoc, append-nil}
 use mathlib.Core.Option.{none}
 use mathlib.Core.Path.{◌≡◌, refl}
-use lib.Dec.{ltb, leb, eqb}
+use lib.Dec.{ltb}
 use lib.ListN.{length, drop, length-append, get_or-append}
 use lib.Seq.{drop_at}
 use borrow.Author.Tests.{le-leb, lt-leb, lt-ltb, le-ltb, ltb-true, ltb-false}
 use Rattle.rounding.specs.First.{only}
-use Rattle.arena.specs.Sound.{allowed_minimum}
-use Rattle.requests.specs.Bytes.{byte_at, number32}
-use Rattle.requests.specs.Header.{header_size, most_region, good_header, header_of, memory_for}
+use Rattle.requests.specs.Bytes.{number32}
+use Rattle.requests.specs.Header.{header_size, good_header, header_of, memory_for}
 use Rattle.requests.specs.Machine.{Machine, heading, machine_at, headed, header_fed, fed_at, fed}
 
 pub header-stays : (p q : List ℕ) → header_size ≤ length p → header_of (p ++ q) ≡ header_of p
@@ -32,13 +31,6 @@ header-stays p q h =
 pub short-header : (p : List ℕ) → length p < header_size → header_of p ≡ none
 unfolding header_of good_header only
 short-header p h = rw (lt-leb header_size (length p) h)
-
--- the header of six bytes or more, by its tests
-pub header-by : (p : List ℕ) {version minimum region : Bool} → header_size ≤ length p → eqb (byte_at p 0) 1 ≡ version →
-    allowed_minimum (byte_at p 1) ≡ minimum → leb (number32 p 2) most_region ≡ region →
-    header_of p ≡ only (version && (minimum && region)) (record { minimum = byte_at p 1; region = number32 p 2 })
-unfolding header_of good_header
-header-by p h v m r = rw (le-leb header_size (length p) h, v, m, r)
 
 -- what a run comes to that has read these bytes and no more
 unfoldable pub opened_by : List ℕ → List ℕ → Machine

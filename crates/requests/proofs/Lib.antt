@@ -3,7 +3,6 @@ pub mod Settling
 pub mod Feeding
 pub mod Heading
 pub mod Whole
-pub mod Codes
 pub mod Decimal
 pub mod Putting
 pub mod Running

@@ -1,8 +1,9 @@
 -- What the code's run of a request says, from what the call that it makes answers. Assumes nothing.
 use Prim.Native.Nat.{ℕ}
 use mathlib.Core.List.{List}
-use mathlib.Core.Path.{◌≡◌, ap, ◌∙◌}
+use mathlib.Core.Path.{◌≡◌, sym, ap, ◌∙◌}
 use Rattle.arena.specs.declared.Arena.{Arena}
+use Rattle.arena.specs.declared.Answer.TheVariants.{Done}
 use Rattle.arena.specs.declared.Outcome.{Outcome}
 use Rattle.arena.specs.declared.change.Change.{Change}
 use Rattle.arena.specs.Inner.{changed_by}
@@ -13,7 +14,7 @@ use Rattle.calls.specs.declared.TokenAllocation.{TokenAllocation}
 use Rattle.calls.specs.declared.TokenPlaced.{TokenPlaced}
 use Rattle.calls.specs.Inner.{placed_of, token_placed_of, ended_of}
 use Rattle.requests.specs.declared.run.Ran.{Ran}
-use Rattle.requests.specs.Run.{Reply, given_reply, answer_reply, ran_to, gave, did}
+use Rattle.requests.specs.Run.{Reply, done, given_reply, answer_reply, ran_to, gave, did}
 use Rattle.requests.specs.Inner.{reply_said, ran_said}
 
 module _ (a : Arena) (r : Ran) {after bytes : List ℕ} where
@@ -31,6 +32,12 @@ module _ (a : Arena) (r : Ran) {after bytes : List ℕ} where
       (reply_said r.reply ≡ answer_reply got.answer) × (r.change ≡ got.change) → ended_of a got ≡ want → after ≡ bytes →
       ran_said a r after ≡ did want bytes
   did-said e g b = said (e.0 ∙ ap (λ (w : Outcome). answer_reply w.answer) g) e.1 (ap (λ (w : Outcome). w.arena) g) b
+
+  pub done-said : {change : Change} {want : Outcome} →
+      (reply_said r.reply ≡ done) × (r.change ≡ change) → want ≡ record { answer = Done; arena = changed_by change a } → after ≡ bytes →
+      ran_said a r after ≡ did want bytes
+  unfolding answer_reply
+  done-said e w b = said (e.0 ∙ sym (ap (λ (o : Outcome). answer_reply o.answer) w)) e.1 (sym (ap (λ (o : Outcome). o.arena) w)) b
 
   pub token-said : {got : TokenPlaced} {want : TokenAllocation} →
       (reply_said r.reply ≡ given_reply got.answer) × (r.change ≡ got.change) → token_placed_of a got ≡ want → after ≡ bytes →

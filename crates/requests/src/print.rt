@@ -18,7 +18,8 @@ pub fn put_text(out: &mut [u8], at: usize, text: &[u8]) -> usize
 
 pub fn put_number(out: &mut [u8], at: usize, n: usize) -> usize
     requires { at + 20 ≤ length out.old }
-    ensures { Put out.old at (decimal n) out.new result }
+    ensures put { Put out.old at (decimal n) out.new result }
+    ensures bound { result ≤ at + 20 }
 {
     let mut digits = [0u8; 20];
     let k = io::decimal(n as u64, &mut digits);
@@ -58,9 +59,9 @@ pub fn put_line(out: &mut [u8], at: usize, number: usize, reply: Reply) -> usize
 {
     let next = put_number(out, at, number);
     match reply {
-        Reply::At(offset) => put_ended(out, next, b" at ", offset),
-        Reply::Done => put_text(out, next, b" done\n"),
-        Reply::Refused(refusal) => put_ended(out, next, b" refused ", number_of(refusal)),
+        Ok(Some(offset)) => put_ended(out, next, b" at ", offset),
+        Ok(None) => put_text(out, next, b" done\n"),
+        Err(refusal) => put_ended(out, next, b" refused ", number_of(refusal)),
     }
 }
 

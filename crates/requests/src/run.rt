@@ -2,9 +2,8 @@
 ghost use Rattle.std.specs.Prelude.{◌≡◌, true, length};
 ghost use Rattle.arena.specs.Record.{record_of};
 ghost use Rattle.arena.specs.Sound.{sound_of};
-ghost use Rattle.arena.specs.declared.Answer.TheVariants.{Done};
-ghost use Rattle.requests.specs.Run.{given_reply, answer_reply, run_in};
-ghost use Rattle.requests.specs.Inner.{reply_said, request_said, ran_said};
+ghost use Rattle.requests.specs.Run.{done, run_in};
+ghost use Rattle.requests.specs.Inner.{reply_said, request_said, ran_said, GivesPlaced, GivesTokenPlaced, GivesEnded};
 
 use crate::{Reply, Request};
 use arena::change::Change;
@@ -24,54 +23,56 @@ pub struct Ran {
     pub change: Change,
 }
 
-fn gave(placed: Placed) -> Ran
-    ensures { (reply_said result.reply ≡ given_reply placed.answer) × (result.change ≡ placed.change) }
-{
-    let answer = placed.answer;
-    let change = placed.change;
-    match answer {
-        Given::At(offset) => Ran {
-            reply: Reply::At(offset),
-            change,
-        },
-        Given::Refused(refusal) => Ran {
-            reply: Reply::Refused(refusal),
-            change,
-        },
+impl From<Placed> for Ran {
+    ghost from_gives = { GivesPlaced };
+
+    #[tactic(auto, unfolding(crate::specs::Inner::reply_said, crate::specs::Run::given_reply))]
+    fn from(placed: Placed) -> Ran {
+        let reply = match placed.answer {
+            Given::At(offset) => Ok(Some(offset)),
+            Given::Refused(refusal) => Err(refusal),
+        };
+        Ran {
+            reply,
+            change: placed.change,
+        }
     }
 }
 
-fn gave_with_token(placed: TokenPlaced) -> Ran
-    ensures { (reply_said result.reply ≡ given_reply placed.answer) × (result.change ≡ placed.change) }
-{
-    let answer = placed.answer;
-    let change = placed.change;
-    gave(Placed { answer, change })
+impl From<TokenPlaced> for Ran {
+    ghost from_gives = { GivesTokenPlaced };
+
+    fn from(placed: TokenPlaced) -> Ran {
+        Ran::from(Placed {
+            answer: placed.answer,
+            change: placed.change,
+        })
+    }
 }
 
-fn did(ended: Ended) -> Ran
-    ensures { (reply_said result.reply ≡ answer_reply ended.answer) × (result.change ≡ ended.change) }
-{
-    let answer = ended.answer;
-    let change = ended.change;
-    match answer {
-        Answer::Done => Ran {
-            reply: Reply::Done,
-            change,
-        },
-        Answer::Refused(refusal) => Ran {
-            reply: Reply::Refused(refusal),
-            change,
-        },
+impl From<Ended> for Ran {
+    ghost from_gives = { GivesEnded };
+
+    #[tactic(auto, unfolding(crate::specs::Inner::reply_said, crate::specs::Run::answer_reply))]
+    fn from(ended: Ended) -> Ran {
+        let reply = match ended.answer {
+            Answer::Done => Ok(None),
+            Answer::Refused(refusal) => Err(refusal),
+        };
+        Ran {
+            reply,
+            change: ended.change,
+        }
     }
 }
 
 // Of a sound record a reset and a limit are never refused.
-fn always(change: Change) -> Ended
-    ensures { result ≡ record { answer = Done; change = change } }
+#[tactic(auto, unfolding(crate::specs::Inner::reply_said))]
+fn always(change: Change) -> Ran
+    ensures { (reply_said result.reply ≡ done) × (result.change ≡ change) }
 {
-    Ended {
-        answer: Answer::Done,
+    Ran {
+        reply: Ok(None),
         change,
     }
 }
@@ -88,34 +89,50 @@ pub fn run<'a>(
     ensures { ran_said (record_of h starts.now sizes.now pointers.now) result region.new ≡ run_in (request_said request) (record_of h starts.now sizes.now pointers.now) region.old }
 {
     match request {
-        Request::Allocate(size, align) => {
-            gave(allocate_placed(h, starts, sizes, pointers, size, align))
+        Request::Allocate { size, align } => {
+            Ran::from(allocate_placed(h, starts, sizes, pointers, size, align))
         }
-        Request::Free(offset, size, align) => {
-            did(free_ended(h, starts, sizes, pointers, offset, size, align))
-        }
-        Request::Grow(offset, old, old_align, new, new_align) => gave(grow_placed(
-            h, starts, sizes, pointers, region, offset, old, old_align, new, new_align,
-        )),
-        Request::Shrink(offset, old, old_align, new, new_align) => gave(shrink_placed(
-            h, starts, sizes, pointers, region, offset, old, old_align, new, new_align,
-        )),
-        Request::Reset => did(always(Change::Kept)),
-        Request::SetLimit(limit) => did(always(Change::Limited(1, limit))),
-        Request::NoLimit => did(always(Change::Limited(0, 0))),
-        Request::AllocateWithToken(size, align) => {
-            gave_with_token(allocate_with_token_placed(h, starts, sizes, pointers, size, align))
-        }
-        Request::Cancel(offset, count, pointer) => did(cancel_ended(
-            h,
-            starts,
-            sizes,
-            pointers,
+        Request::Free {
             offset,
-            Token { count, pointer },
+            size,
+            align,
+        } => Ran::from(free_ended(h, starts, sizes, pointers, offset, size, align)),
+        Request::Grow {
+            offset,
+            old_size,
+            old_align,
+            new_size,
+            new_align,
+        } => Ran::from(grow_placed(
+            h, starts, sizes, pointers, region, offset, old_size, old_align, new_size, new_align,
         )),
-        Request::Resize(offset, old, align, new) => gave(resize_placed(
-            h, starts, sizes, pointers, region, offset, old, align, new,
+        Request::Shrink {
+            offset,
+            old_size,
+            old_align,
+            new_size,
+            new_align,
+        } => Ran::from(shrink_placed(
+            h, starts, sizes, pointers, region, offset, old_size, old_align, new_size, new_align,
+        )),
+        Request::Reset => always(Change::Kept),
+        Request::SetLimit { limit } => always(Change::Limited(1, limit)),
+        Request::NoLimit => always(Change::Limited(0, 0)),
+        Request::AllocateWithToken { size, align } => Ran::from(allocate_with_token_placed(
+            h, starts, sizes, pointers, size, align,
+        )),
+        Request::Cancel {
+            offset,
+            count,
+            pointer,
+        } => Ran::from(cancel_ended(h, starts, sizes, pointers, offset, Token { count, pointer })),
+        Request::Resize {
+            offset,
+            old_size,
+            align,
+            new_size,
+        } => Ran::from(resize_placed(
+            h, starts, sizes, pointers, region, offset, old_size, align, new_size,
         )),
     }
 }

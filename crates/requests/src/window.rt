@@ -3,7 +3,6 @@ ghost use Rattle.std.specs.Prelude.{◌≡◌, true, ◌+◌, ◌<◌, ◌^◌, 
 ghost use Rattle.arena.specs.Sound.{sound_of};
 ghost use Rattle.requests.specs.Window.{memory_of, passed_of, Through};
 
-use crate::Front;
 use crate::print::put_line;
 use crate::read::read_front;
 use crate::run::run;
@@ -42,15 +41,15 @@ pub fn run_window(
     let mut taken = 0;
     let mut written = 0;
     while LINE <= out.len() - written {
-        let Front::Whole(size, request) = read_front(&window[taken..]) else {
+        let Ok(record) = read_front(&window[taken..]) else {
             break;
         };
-        let ran = run(head, &starts, &sizes, &pointers, region, request);
+        let ran = run(head, &starts, &sizes, &pointers, region, record.request);
         let reply = ran.reply;
         let change = ran.change;
         head = make(head, &mut starts, &mut sizes, &mut pointers, change);
         written = put_line(out, written, next, reply);
-        taken += size;
+        taken += record.size;
         next += 1;
     }
     let held = Arena {

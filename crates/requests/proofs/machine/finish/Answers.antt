@@ -49,6 +49,6 @@ returns c =
     let rest = c.args.rest.now in
     let l = ending-length stage n rest in
     let held : Put c.put_ending-ended.new.out c.put_ending-ended.result (held_line a) c.put_held.new.out c.put_held.result = rw (sym c.held_bytes-held.ensures) c.put_held.ensures in
-    let both : Put out 0 (ending_text stage n rest ++ held_line a) c.put_held.new.out c.put_held.result = put_then (omega (arith, l, c.if-out-lt-END.false)) c.put_ending-ended.ensures held in
+    let both : Put out 0 (ending_text stage n rest ++ held_line a) c.put_held.new.out c.put_held.result = put_then (omega (arith, c.put_ending-ended.ensures.moved, c.put_ending-ended.auto.out, l, c.if-out-lt-END.false)) c.put_ending-ended.ensures held in
     rw (le-leb end_room (length out) c.if-out-lt-END.false, sound-said)
     (record { put = both; upper_bound = omega (arith, both.moved, length-append (ending_text stage n rest) (held_line a), l, held-length a, c.if-out-lt-END.false, c.put_held.auto.out, c.put_ending-ended.auto.out) })

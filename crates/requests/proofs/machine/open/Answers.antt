@@ -28,7 +28,7 @@ returns-in_default c lent =
     (record {
       stage = refl;
       number = refl;
-      memory = no-memory lent c.no_arena-none.result c.no_arena-none.ensures;
+      memory = no-memory lent c.no_arena.result c.no_arena.ensures;
       beyond = refl;
       taken = refl;
       put = c.put_text-written.ensures;
@@ -37,7 +37,7 @@ returns-in_default c lent =
 pub returns : goal.returns
 unfolding headed header_said stage_said
 returns c lent =
-    let said = sym c.read_header.ensures ∙ ap header_said c.in-Good.is in
+    let said = sym c.read_header.ensures ∙ ap header_said c.in-Some.is in
     rw (
     heading-opens lent c.args.state.number (memory_in c.args.state.arena lent) c.args.window.now (length c.args.out.now)
     c.if-window-lt-HEADER.false c.if-out-lt-LINE.false said

@@ -14,4 +14,7 @@ pub returns : goal.returns
 returns c =
     let d = c.decimal-k in
     let bound = fewest-bound d.result _ c.ranges.n.fits d.ensures.len in
-    rw (← (d.ensures.digits ∙ digits_decimal d.result _ bound d.ensures.len)) c.put_text.ensures
+    record {
+      put = rw (← (d.ensures.digits ∙ digits_decimal d.result _ bound d.ensures.len)) c.put_text.ensures;
+      bound = omega (arith, c.put_text.ensures.moved, d.ensures.in_bounds);
+    }
