@@ -3,7 +3,7 @@ use Prim.Native.Nat.{ℕ, ◌≤◌, ◌<◌}
 use native.Mathlib.Omega.{arith}
 use mathlib.Core.Bool.{Bool, true, false, cond}
 use mathlib.Core.List.{List, [], ◌∷◌, ◌++◌, append_assoc, append-nil}
-use mathlib.Core.Option.{none}
+use Rattle.std.specs.Prelude.{None}
 use mathlib.Core.Path.{◌≡◌, refl}
 use lib.Dec.{ltb}
 use lib.ListN.{length, drop, length-append, get_or-append}
@@ -28,7 +28,7 @@ header-stays p q h =
       get_or-append p q 0 5 (omega arith),
     )
 
-pub short-header : (p : List ℕ) → length p < header_size → header_of p ≡ none
+pub short-header : (p : List ℕ) → length p < header_size → header_of p ≡ None
 unfolding header_of good_header only
 short-header p h = rw (lt-leb header_size (length p) h)
 
@@ -36,11 +36,11 @@ short-header p h = rw (lt-leb header_size (length p) h)
 unfoldable pub opened_by : List ℕ → List ℕ → Machine
 opened_by lent bytes =
     cond (ltb (length bytes) header_size)
-    (machine_at heading 1 (memory_for lent none) bytes [])
+    (machine_at heading 1 (memory_for lent None) bytes [])
     (fed lent (headed lent (header_of bytes)) (drop header_size bytes))
 
 head-on : (lent pending bytes : List ℕ) → length pending < header_size →
-    fed lent (machine_at heading 1 (memory_for lent none) pending []) bytes ≡ opened_by lent (pending ++ bytes)
+    fed lent (machine_at heading 1 (memory_for lent None) pending []) bytes ≡ opened_by lent (pending ++ bytes)
 unfolding fed fed_at header_fed opened_by
 head-on lent pending [] h = rw (append-nil pending, lt-ltb (length pending) header_size h)
 head-on lent pending (b ∷ bytes) h =
@@ -51,13 +51,13 @@ head-on lent pending (b ∷ bytes) h =
     more = pending ++ (b ∷ [])
 
     go : (t : Bool) → ltb (length more) header_size ≡ t →
-        (length more < header_size → fed lent (machine_at heading 1 (memory_for lent none) more []) bytes ≡ opened_by lent (more ++ bytes)) →
-        fed lent (cond t (machine_at heading 1 (memory_for lent none) more []) (headed lent (header_of more))) bytes ≡ opened_by lent (more ++ bytes)
+        (length more < header_size → fed lent (machine_at heading 1 (memory_for lent None) more []) bytes ≡ opened_by lent (more ++ bytes)) →
+        fed lent (cond t (machine_at heading 1 (memory_for lent None) more []) (headed lent (header_of more))) bytes ≡ opened_by lent (more ++ bytes)
     go true t again = again (ltb-true (length more) header_size t)
     go false t again =
         let enough : header_size ≤ length more = ltb-false (length more) header_size t in
         let exact : length more ≡ header_size = omega (arith, length-append pending (b ∷ [])) in
         rw (le-ltb (length (more ++ bytes)) header_size (omega (arith, length-append more bytes)), header-stays more bytes enough, drop_at more bytes header_size exact)
 
-pub opened : (lent bytes : List ℕ) → fed lent (machine_at heading 1 (memory_for lent none) [] []) bytes ≡ opened_by lent bytes
+pub opened : (lent bytes : List ℕ) → fed lent (machine_at heading 1 (memory_for lent None) [] []) bytes ≡ opened_by lent bytes
 opened lent bytes = head-on lent [] bytes (omega arith)

@@ -4,7 +4,7 @@ use Prim.Native.Nat.{ℕ, ◌+◌, ◌≤◌, ◌<◌}
 use native.Mathlib.Omega.{arith}
 use mathlib.Core.Bool.{Bool, true, false, cond}
 use mathlib.Core.List.{List, [], ◌∷◌, ◌++◌}
-use mathlib.Core.Option.{Option, none, some}
+use Rattle.std.specs.Prelude.{Option, None, Some}
 use mathlib.Core.Path.{◌≡◌, refl, sym, ◌∙◌}
 use lib.Dec.{leb}
 use lib.ListN.{length, take, drop, length-append, take-append-drop}
@@ -17,13 +17,13 @@ use Rattle.requests.specs.Front.{part, whole, unfinished, record_front, front_of
 -- a whole record settles the front
 record-settles : (n : ℕ) (o : Option Request) → unfinished (record_front n o) ≡ false
 unfolding record_front
-record-settles n none = refl
-record-settles n (some r) = refl
+record-settles n None = refl
+record-settles n (Some r) = refl
 
 record-size : (n : ℕ) (o : Option Request) {size : ℕ} {r : Request} → record_front n o ≡ whole size r → size ≡ 2 + n
 unfolding record_front
-record-size n none e = cc
-record-size n (some x) e = cc
+record-size n None e = cc
+record-size n (Some x) e = cc
 
 -- a record takes its length number and the bytes after it, which are there
 sized : (high low : ℕ) (rest : List ℕ) {size : ℕ} {r : Request} → front_of (high ∷ (low ∷ rest)) ≡ whole size r →

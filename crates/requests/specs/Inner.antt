@@ -1,12 +1,11 @@
 -- What the contracts between our own functions say. Nothing of document 01 is decided here.
-use Rattle.std.specs.Prelude.{ℕ, ◌+◌, ◌*◌, ◌≡◌, ◌<◌, length, cond, List, [], ◌∷◌, eqb, Result, Ok, Err, Option as Code-as-Option, Some, None, MatchResult}
+use Rattle.std.specs.Prelude.{ℕ, ◌+◌, ◌*◌, ◌≡◌, ◌<◌, length, cond, List, [], ◌∷◌, eqb, Result, Ok, Err, Some, None, MatchResult, Option, ⊤}
 use Rattle.arena.specs.declared.Arena.{Arena}
 use Rattle.arena.specs.declared.Refusal.{Refusal}
 use Rattle.arena.specs.Inner.{changed_by}
 use Rattle.calls.specs.Bytes.{written}
-use Rattle.calls.specs.declared.Placed.{Placed}
+use Rattle.calls.specs.declared.Answered.{Answered}
 use Rattle.calls.specs.declared.TokenPlaced.{TokenPlaced}
-use Rattle.calls.specs.declared.Ended.{Ended}
 use Rattle.requests.specs.declared.Request.TheVariants.{Allocate, Free, Grow, Shrink, Reset, SetLimit, NoLimit, AllocateWithToken, Cancel, Resize}
 use Rattle.requests.specs.declared.Request.{Request as Code-as-Request}
 use Rattle.requests.specs.declared.Record.{Record}
@@ -21,7 +20,6 @@ use Rattle.requests.specs.Request.{Request, allocate, free, grow, shrink, reset,
 use Rattle.requests.specs.Run.{Reply, at_offset, done, refused, given_reply, answer_reply, Ran, ran_to}
 use Rattle.requests.specs.Front.{Front, nothing, part, bad, whole}
 use Rattle.requests.specs.Header.{Header}
-use Rattle.std.proofs.Math.Option.{Option, none, some}
 
 -- the request that a value of the code's type says
 unfoldable pub request_said : Code-as-Request → Request
@@ -38,8 +36,8 @@ request_said (Resize offset old align new) = resize offset old align new
 
 -- the request that a record was read as
 unfoldable pub request_read : Result Code-as-Request NoRequest → Option Request
-request_read (Ok r) = some (request_said r)
-request_read (Err e) = none
+request_read (Ok r) = Some (request_said r)
+request_read (Err e) = None
 
 unfoldable pub front_said : Result Record Ending → Front
 front_said (Ok r) = whole r.size (request_said r.request)
@@ -48,9 +46,9 @@ front_said (Err CutOff) = part
 front_said (Err BadRecord) = bad
 
 -- the header that a value of the code's type says
-unfoldable pub header_said : Code-as-Option Code-as-Header → Option Header
-header_said None = none
-header_said (Some h) = some (record { minimum = h.minimum; region = h.region })
+unfoldable pub header_said : Option Code-as-Header → Option Header
+header_said None = None
+header_said (Some h) = Some (record { minimum = h.minimum; region = h.region })
 
 -- the length that suits a code, and 0 for a code that is none
 unfoldable pub size_by : List Form → ℕ → ℕ
@@ -84,7 +82,7 @@ pub record Put (before : List ℕ) (at : ℕ) (text after : List ℕ) (next : �
   pub moved : next ≡ at + length text
 
 -- the reply that a value of the code's type says
-unfoldable pub reply_said : Result (Code-as-Option ℕ) Refusal → Reply
+unfoldable pub reply_said : Result (Option ℕ) Refusal → Reply
 reply_said (Ok (Some offset)) = at_offset offset
 reply_said (Ok None) = done
 reply_said (Err r) = refused r
@@ -94,11 +92,11 @@ unfoldable pub ran_said : Arena → Code-as-Ran → List ℕ → Ran
 ran_said a r bytes = ran_to (reply_said r.reply) (changed_by r.change a) bytes
 
 -- what a call answered, as a run
-abbrev pub GivesPlaced : Placed → Code-as-Ran → Type 0
+abbrev pub GivesPlaced : Answered ℕ → Code-as-Ran → Type 0
 GivesPlaced placed r = (reply_said r.reply ≡ given_reply placed.answer) × (r.change ≡ placed.change)
 
 abbrev pub GivesTokenPlaced : TokenPlaced → Code-as-Ran → Type 0
 GivesTokenPlaced placed r = (reply_said r.reply ≡ given_reply placed.answer) × (r.change ≡ placed.change)
 
-abbrev pub GivesEnded : Ended → Code-as-Ran → Type 0
+abbrev pub GivesEnded : Answered ⊤ → Code-as-Ran → Type 0
 GivesEnded ended r = (reply_said r.reply ≡ answer_reply ended.answer) × (r.change ≡ ended.change)

@@ -66,11 +66,10 @@ pub fn start() -> State
 pub fn is_ready(state: &State, lent: &[u8], window: &[u8]) -> bool
     ensures { result ≡ ready state.now.arena state.now.number (length lent.now) (length window.now) }
 {
-    let a = &state.arena;
     MOST_REGION <= lent.len()
-        && a.head.region <= lent.len()
+        && state.arena.head.region <= lent.len()
         && state.number <= usize::MAX - window.len()
-        && is_sound(a.head, &a.starts, &a.sizes, &a.pointers)
+        && is_sound(&state.arena.lent())
 }
 
 // Nothing is taken.
@@ -236,11 +235,10 @@ pub fn finish(state: State, rest: &[u8], out: &mut [u8]) -> usize
     if out.len() < END {
         return 0;
     }
-    let a = &state.arena;
-    if !is_sound(a.head, &a.starts, &a.sizes, &a.pointers) {
+    let Some(sound) = state.arena.sound() else {
         return 0;
-    }
+    };
     let ended = put_ending(out, state.stage, state.number, rest);
-    let held = held_bytes(a.head, &a.starts, &a.sizes, &a.pointers);
-    put_held(out, ended, held, a.head.count)
+    let held = held_bytes(&sound.lent);
+    put_held(out, ended, held, state.arena.head.count)
 }

@@ -1,16 +1,15 @@
-// Running one request on a record that is known to be sound and is lent in parts: nothing tests it again, and its holder makes the change.
-ghost use Rattle.std.specs.Prelude.{◌≡◌, true, length};
-ghost use Rattle.arena.specs.Record.{record_of};
-ghost use Rattle.arena.specs.Sound.{sound_of};
+// Running one request on a record that is known to be sound: nothing tests it again, and its holder makes the change.
+ghost use Rattle.std.specs.Prelude.{◌≡◌, length};
+ghost use Rattle.arena.specs.Inner.{lent_of};
 ghost use Rattle.requests.specs.Run.{done, run_in};
 ghost use Rattle.requests.specs.Inner.{reply_said, request_said, ran_said, GivesPlaced, GivesTokenPlaced, GivesEnded};
 
 use crate::{Reply, Request};
 use arena::change::Change;
-use arena::{Answer, Head};
+use arena::sound::Sound;
 use calls::allocate::allocate_placed;
 use calls::free::free_ended;
-use calls::{Ended, Given, Placed, Token, TokenPlaced};
+use calls::{Answered, Token, TokenPlaced};
 use reshape::grow::grow_placed;
 use reshape::resize::resize_placed;
 use reshape::shrink::shrink_placed;
@@ -23,17 +22,13 @@ pub struct Ran {
     pub change: Change,
 }
 
-impl From<Placed> for Ran {
+impl From<Answered<usize>> for Ran {
     ghost from_gives = { GivesPlaced };
 
     #[tactic(auto, unfolding(crate::specs::Inner::reply_said, crate::specs::Run::given_reply))]
-    fn from(placed: Placed) -> Ran {
-        let reply = match placed.answer {
-            Given::At(offset) => Ok(Some(offset)),
-            Given::Refused(refusal) => Err(refusal),
-        };
+    fn from(placed: Answered<usize>) -> Ran {
         Ran {
-            reply,
+            reply: placed.answer.map(Some),
             change: placed.change,
         }
     }
@@ -43,24 +38,20 @@ impl From<TokenPlaced> for Ran {
     ghost from_gives = { GivesTokenPlaced };
 
     fn from(placed: TokenPlaced) -> Ran {
-        Ran::from(Placed {
+        Ran::from(Answered {
             answer: placed.answer,
             change: placed.change,
         })
     }
 }
 
-impl From<Ended> for Ran {
+impl From<Answered<()>> for Ran {
     ghost from_gives = { GivesEnded };
 
     #[tactic(auto, unfolding(crate::specs::Inner::reply_said, crate::specs::Run::answer_reply))]
-    fn from(ended: Ended) -> Ran {
-        let reply = match ended.answer {
-            Answer::Done => Ok(None),
-            Answer::Refused(refusal) => Err(refusal),
-        };
+    fn from(ended: Answered<()>) -> Ran {
         Ran {
-            reply,
+            reply: ended.answer.map(|()| None),
             change: ended.change,
         }
     }
@@ -77,26 +68,19 @@ fn always(change: Change) -> Ran
     }
 }
 
-pub fn run<'a>(
-    h: Head,
-    starts: &'a [usize; 32],
-    sizes: &'a [usize; 32],
-    pointers: &'a [usize; 32],
-    region: &mut [u8],
-    request: Request,
-) -> Ran
-    requires { (sound_of (record_of h starts.now sizes.now pointers.now) ≡ true) × (length region.old ≡ h.region) }
-    ensures { ran_said (record_of h starts.now sizes.now pointers.now) result region.new ≡ run_in (request_said request) (record_of h starts.now sizes.now pointers.now) region.old }
+pub fn run(a: &Sound, region: &mut [u8], request: Request) -> Ran
+    requires { length region.old ≡ a.now.lent.head.region }
+    ensures { ran_said (lent_of a.now.lent) result region.new ≡ run_in (request_said request) (lent_of a.now.lent) region.old }
 {
     match request {
         Request::Allocate { size, align } => {
-            Ran::from(allocate_placed(h, starts, sizes, pointers, size, align))
+            Ran::from(allocate_placed(a, size, align))
         }
         Request::Free {
             offset,
             size,
             align,
-        } => Ran::from(free_ended(h, starts, sizes, pointers, offset, size, align)),
+        } => Ran::from(free_ended(a, offset, size, align)),
         Request::Grow {
             offset,
             old_size,
@@ -104,7 +88,7 @@ pub fn run<'a>(
             new_size,
             new_align,
         } => Ran::from(grow_placed(
-            h, starts, sizes, pointers, region, offset, old_size, old_align, new_size, new_align,
+            a, region, offset, old_size, old_align, new_size, new_align,
         )),
         Request::Shrink {
             offset,
@@ -113,26 +97,26 @@ pub fn run<'a>(
             new_size,
             new_align,
         } => Ran::from(shrink_placed(
-            h, starts, sizes, pointers, region, offset, old_size, old_align, new_size, new_align,
+            a, region, offset, old_size, old_align, new_size, new_align,
         )),
         Request::Reset => always(Change::Kept),
-        Request::SetLimit { limit } => always(Change::Limited(1, limit)),
-        Request::NoLimit => always(Change::Limited(0, 0)),
+        Request::SetLimit { limit } => always(Change::Limited(Some(limit))),
+        Request::NoLimit => always(Change::Limited(None)),
         Request::AllocateWithToken { size, align } => Ran::from(allocate_with_token_placed(
-            h, starts, sizes, pointers, size, align,
+            a, size, align,
         )),
         Request::Cancel {
             offset,
             count,
             pointer,
-        } => Ran::from(cancel_ended(h, starts, sizes, pointers, offset, Token { count, pointer })),
+        } => Ran::from(cancel_ended(a, offset, Token { count, pointer })),
         Request::Resize {
             offset,
             old_size,
             align,
             new_size,
         } => Ran::from(resize_placed(
-            h, starts, sizes, pointers, region, offset, old_size, align, new_size,
+            a, region, offset, old_size, align, new_size,
         )),
     }
 }

@@ -8,6 +8,8 @@ use crate::read::read_front;
 use crate::run::run;
 use arena::Arena;
 use arena::change::make;
+use arena::lent::Lent;
+use arena::sound::Sound;
 
 // Any line fits in this many bytes.
 pub const LINE: usize = 64;
@@ -44,22 +46,25 @@ pub fn run_window(
         let Ok(record) = read_front(&window[taken..]) else {
             break;
         };
-        let ran = run(head, &starts, &sizes, &pointers, region, record.request);
-        let reply = ran.reply;
-        let change = ran.change;
-        head = make(head, &mut starts, &mut sizes, &mut pointers, change);
-        written = put_line(out, written, next, reply);
+        let lent = Lent {
+            head,
+            starts: &starts,
+            sizes: &sizes,
+            pointers: &pointers,
+        };
+        let ran = run(&Sound { lent }, region, record.request);
+        head = make(head, &mut starts, &mut sizes, &mut pointers, ran.change);
+        written = put_line(out, written, next, ran.reply);
         taken += record.size;
         next += 1;
     }
-    let held = Arena {
-        head,
-        starts,
-        sizes,
-        pointers,
-    };
     Progress {
-        arena: held,
+        arena: Arena {
+            head,
+            starts,
+            sizes,
+            pointers,
+        },
         number: next,
         taken,
         written,

@@ -1,5 +1,5 @@
 -- `requests::machine::open` meets its contract: by the tests on the window and the output, and by the header. Assumes nothing.
-use mathlib.Core.Option.{none}
+use Rattle.std.specs.Prelude.{None}
 use mathlib.Core.Path.{refl, sym, ap, ◌∙◌}
 use lib.ListN.{length}
 use Rattle.requests.specs.Machine.{headed}
@@ -22,7 +22,7 @@ pub returns-in_default : goal.returns-in_default
 unfolding headed header_said stage_said
 returns-in_default c lent =
     rw (
-    heading-opens lent c.args.state.number (memory_in c.args.state.arena lent) c.args.window.now (length c.args.out.now) {o = none}
+    heading-opens lent c.args.state.number (memory_in c.args.state.arena lent) c.args.window.now (length c.args.out.now) {o = None}
     c.if-window-lt-HEADER.false c.if-out-lt-LINE.false (sym c.read_header.ensures ∙ ap header_said c.in_default.is)
     )
     (record {
