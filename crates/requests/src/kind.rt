@@ -1,6 +1,5 @@
 // The ten calls that a record may ask for, by their codes.
-ghost use Rattle.std.specs.Prelude.{◌≡◌, ◌+◌, ◌*◌, ◌≤◌, length};
-ghost use Rattle.std.proofs.Math.Option.{some};
+ghost use Rattle.std.specs.Prelude.{◌≡◌, ◌+◌, ◌*◌, ◌≤◌, length, Some};
 ghost use Rattle.requests.specs.Bytes.{byte_at};
 ghost use Rattle.requests.specs.Request.{forms, field_of, request_of};
 ghost use Rattle.requests.specs.Inner.{request_said, code_of, Decodes, size_by};
@@ -77,7 +76,7 @@ impl Kind {
     #[tactic(auto, unfolding(crate::specs::Inner::size_by, crate::specs::Inner::request_said, crate::specs::Request::request_by, crate::specs::Request::request_of))]
     pub fn request(self, body: &[u8]) -> Request
         requires { (code_of self ≡ byte_at body.now 0) × (length body.now ≡ size_by forms (code_of self)) }
-        ensures { request_of body.now ≡ some (request_said result) }
+        ensures { request_of body.now ≡ Some (request_said result) }
     {
         match self {
             Kind::Allocate => Request::Allocate {
