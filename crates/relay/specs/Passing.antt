@@ -52,10 +52,7 @@ unfoldable pub is_over : Next → Bool
 is_over Feed = false
 is_over Read = false
 is_over Write = false
-is_over Done = true
-is_over ReadFailed = true
-is_over WriteFailed = true
-is_over TooLong = true
+is_over next = true
 
 -- once it is done, or something went wrong, nothing changes any more
 unfoldable pub OverStays : Type 0
