@@ -5,7 +5,7 @@ use Rattle.requests.specs.Machine.{machine_at, start, fed}
 use Rattle.requests.specs.Replay.{replay_of}
 use Rattle.requests.specs.Pieces.{is_rest}
 use Rattle.relay.specs.declared.Next.{Next}
-use Rattle.relay.specs.declared.Next.TheVariants.{Feed, Read, Write, Done, ReadFailed, WriteFailed, TooLong}
+use Rattle.relay.specs.declared.Next.TheVariants.{Feed, Read, Write, Done, ReadFailed, WriteFailed}
 use Rattle.relay.specs.Passage.{Passage, asked}
 use Rattle.relay.specs.Event.{Event, ends, read_fails, write_fails, Sizes, after_event, passed}
 

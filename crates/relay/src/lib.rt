@@ -31,6 +31,9 @@ pub enum Failure {
 
 // The machine's state; the bytes read and not taken yet, input[start..filled]; the text not written yet, output[from..to]; whether the input has
 // ended; and what is asked for.
+//
+// The buffers are no fields: they are lent to each step apart, so that its type says which of them it only reads. A ghost field could not see them; so `Fits`,
+// which speaks of their lengths too, stands in the steps' contracts.
 #[derive(Clone, Copy)]
 pub struct Relay {
     pub state: State,

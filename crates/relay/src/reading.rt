@@ -9,6 +9,7 @@ use requests::machine::finish;
 
 impl Relay {
     // So many bytes more are in hand; no more than there is room for.
+    #[tactic(auto, unfolding(crate::specs::View::filled_by))]
     fn take_in(self, moved: usize, room: usize) -> Self
         requires { self.filled ≤ room }
         ensures { result ≡ filled_by self moved room }

@@ -8,6 +8,7 @@ use crate::{Failure, Next, Relay};
 
 impl Relay {
     // So many bytes of the text are written; no more than there are.
+    #[tactic(auto, unfolding(crate::specs::View::written_by))]
     fn give_out(self, moved: usize) -> Self
         requires { self.from ≤ self.to }
         ensures { result ≡ written_by self moved }

@@ -35,7 +35,8 @@ fn read_past<R: Read>(input: &mut [u8], filled: usize, reader: &mut R) -> io::Re
     reader.read(&mut input[filled..])
 }
 
-// Makes the call that is asked for, and hands its answer on. Between two calls the library decides, and is proved. The answer is kept: it says why a call failed.
+// Makes the call that is asked for, and hands its answer on. Between two calls the library decides, and is proved. The answer is kept, since it says why a call
+// failed; it is no part of the relay, which is copied, as an error can't be.
 fn turn<R: Read, W: Write>(
     relay: Relay,
     lent: &mut [u8],

@@ -11,5 +11,5 @@ invariant-loop g l =
       same_lent : length l.lent ≡ length l.initial.lent;
       same_input : length l.input ≡ length l.initial.input;
       same_output : length l.output ≡ length l.initial.output;
-      reached : Reached l.counter l.initial.lent l.relay l.lent l.input l.output
+      reached : Reached l.counter l.initial.lent l.relay l.lent l.input l.output;
     }
