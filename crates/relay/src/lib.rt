@@ -62,7 +62,7 @@ impl Relay {
     }
 
     // The same, and another thing is asked for.
-    pub(crate) fn ask(self, next: Next) -> Self
+    pub fn ask(self, next: Next) -> Self
         ensures { result ≡ asking self next }
     {
         Relay { next, ..self }
