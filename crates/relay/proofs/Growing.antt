@@ -2,7 +2,7 @@
 use Prim.Native.Nat.{ℕ}
 use mathlib.Core.Bool.{Bool, true, false, cond}
 use mathlib.Core.List.{List, [], ◌∷◌, ◌++◌, append_assoc, append-nil}
-use mathlib.Core.Option.{Option, none, some}
+use Rattle.std.specs.Prelude.{Option, None, Some}
 use mathlib.Core.Path.{◌≡◌, refl, sym, ap, ◌∙◌}
 use lib.Dec.{ltb}
 use lib.ListN.{length}
@@ -38,10 +38,10 @@ header-grows : (lent pending : List ℕ) → Grows [] (header_fed lent pending)
 unfolding header_fed headed
 header-grows lent pending = go (ltb (length pending) header_size) (header_of pending)
   where
-    go : (b : Bool) (o : Option Header) → Grows [] (cond b (machine_at heading 1 (memory_for lent none) pending []) (headed lent o))
+    go : (b : Bool) (o : Option Header) → Grows [] (cond b (machine_at heading 1 (memory_for lent None) pending []) (headed lent o))
     go true o = record { begins = begins-none []; quiet = λ e. refl }
-    go false none = record { begins = begins-none (headed lent none).text; quiet = λ e. cc }
-    go false (some h) = record { begins = begins-none []; quiet = λ e. cc }
+    go false None = record { begins = begins-none (headed lent None).text; quiet = λ e. cc }
+    go false (Some h) = record { begins = begins-none []; quiet = λ e. cc }
 
 record-grows : (f : Front) (n : ℕ) (m : Memory) (pending text : List ℕ) → Grows text (record_fed f n m pending text)
 unfolding record_fed

@@ -5,7 +5,7 @@ use Prim.Native.Nat.{ℕ, ◌≤◌, ◌<◌}
 use native.Mathlib.Omega.{arith}
 use mathlib.Core.Bool.{Bool, true, false, ◌&&◌, cond}
 use mathlib.Core.List.{List, [], ◌∷◌, ◌++◌, append_assoc, append-nil}
-use mathlib.Core.Option.{Option, none, some}
+use Rattle.std.specs.Prelude.{Option, None, Some}
 use mathlib.Core.Path.{◌≡◌, refl, sym, ap, ◌∙◌, subst}
 use lib.Dec.{leb, ltb, eqb}
 use lib.ListN.{length, take, drop, length-append, take-append-drop}
@@ -54,8 +54,8 @@ unfolding step_at run_step after_passed headed Waits
 step_waits heading lent n m window room = go (leb header_size (length window) && leb line_room room) (header_of window)
   where
     go : (b : Bool) (o : Option Header) → Waits heading n m (cond b (stepped_to (headed lent o) header_size) (stays heading n m))
-    go true none e = cc
-    go true (some h) e = cc
+    go true None e = cc
+    go true (Some h) e = cc
     go false o e = (refl, refl)
 step_waits running lent n m window room = go (bad_next room window (passed_of room n m window)) (passed_of room n m window)
   where
@@ -96,7 +96,7 @@ record Before (lent : List ℕ) (p : Passage) : Type 0 where
   taken : List ℕ
   gone : gone_on lent (begun lent) pieces ≡ gone_at taken (p.written ++ p.text) p.stage p.number p.memory
   all : taken ++ p.pending ≡ p.read
-  fresh : p.stage ≡ heading → (p.memory ≡ memory_for lent none) × (p.beyond ≡ lent)
+  fresh : p.stage ≡ heading → (p.memory ≡ memory_for lent None) × (p.beyond ≡ lent)
 
 Stand : Bool → List ℕ → Passage → Type 0
 Stand false lent p = Before lent p
@@ -150,7 +150,7 @@ module _ (lent : List ℕ) (input output : ℕ) (long : most_region ≤ length l
 
     -- while the header is not whole the lent bytes are as they were
     waited : Before lent p → (p.stage ≡ heading) × (step.after.memory ≡ p.memory) →
-        (step.after.memory ≡ memory_for lent none) × (drop step.after.memory.arena.head.region (lent_bytes p) ≡ lent)
+        (step.after.memory ≡ memory_for lent None) × (drop step.after.memory.arena.head.region (lent_bytes p) ≡ lent)
     unfolding memory_for holding
     waited b w =
         let none_yet = w.1 ∙ (b.fresh w.0).0 in
