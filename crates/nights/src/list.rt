@@ -1,92 +1,67 @@
 // The list that tools/requests makes: a name, a file and its lines, each a 4-byte length and as many bytes, and again to the end.
-ghost use Rattle.std.specs.Prelude.{◌≡◌, ◌<◌, ◌≤◌, length, OnErr};
+ghost use Rattle.std.specs.Prelude.{◌≡◌, length, OnErr};
 ghost use Rattle.std.specs.Io.{ReadsAtMost};
-ghost use Rattle.io.specs.Counts.{IsPrefixLen};
 
 use std::io;
-use std::io::{ErrorKind, Read};
+use std::io::Read;
+use trial::table::read_full;
 
-pub fn lesser(a: usize, b: usize) -> usize
-    ensures upper_bound { result ≤ a }
-    ensures upper_bound_2 { result ≤ b }
-{
-    if a < b { a } else { b }
+// A request file, its name and the lines that it has to print.
+#[derive(Clone, Copy)]
+pub struct Night<'a> {
+    pub name: &'a [u8],
+    pub file: &'a [u8],
+    pub lines: &'a [u8],
 }
 
-// As many of the bytes as there are, up to n.
-pub fn within(n: usize, bytes: &[u8]) -> usize
-    ensures { IsPrefixLen result bytes.now }
-{
-    lesser(n, bytes.len())
-}
+// The longest file is a header, a record of 65,535 bytes and some more.
+const FILE: usize = 131072;
 
-fn wide(b: u8) -> usize
-    ensures { result < 256 }
-{
-    b as usize
-}
-
-// Reads until the part is full or the input ends. Answers how many bytes it put at the front. A failed read leaves the part with any bytes, and as long.
-fn read_full<R: Read>(reader: &mut R, part: &mut [u8]) -> io::Result<usize>
-    ensures ok { ReadsAtMost result part.new }
-    ensures err { OnErr result (length part.new ≡ length part.old) }
-{
-    let mut done = 0;
-    for _ in 0..u64::MAX {
-        if done == part.len() {
-            break;
-        }
-        match reader.read(&mut part[done..]) {
-            Ok(0) => break,
-            Ok(n) => done += n,
-            Err(e) => {
-                if e.kind() != ErrorKind::Interrupted {
-                    return Err(e);
-                }
-            }
-        }
-    }
-    Ok(done)
+// Room for a night of the list.
+#[derive(Drop)]
+pub struct Room {
+    name: [u8; 4096],
+    file: [u8; FILE],
+    lines: [u8; 65536],
 }
 
 // A length, big-endian; 0 at the end of the list.
 fn read_length<R: Read>(reader: &mut R) -> io::Result<usize> {
     let mut four = [0u8; 4];
     read_full(reader, &mut four)?;
-    let high = wide(four[0]) * 256 + wide(four[1]);
-    let low = wide(four[2]) * 256 + wide(four[3]);
-    Ok(high * 65536 + low)
+    Ok(u32::from_be_bytes(four) as usize)
 }
 
 // Answers how many bytes of the next piece it put at the front: all, where they fit.
-pub fn read_piece<R: Read>(reader: &mut R, piece: &mut [u8]) -> io::Result<usize>
+fn read_piece<R: Read>(reader: &mut R, piece: &mut [u8]) -> io::Result<usize>
     ensures ok { ReadsAtMost result piece.new }
     ensures err { OnErr result (length piece.new ≡ length piece.old) }
 {
-    let n = within(read_length(reader)?, piece);
-    let got = read_full(reader, &mut piece[..n])?;
-    Ok(within(got, piece))
+    let n = read_length(reader)?.min(piece.len());
+    read_full(reader, &mut piece[..n])
 }
 
-// How many bytes from the first on are the same in both.
-pub fn agreed(text: &[u8], lines: &[u8]) -> usize {
-    let most = lesser(text.len(), lines.len());
-    let mut i: usize = 0;
-    while i < most {
-        if text[i] != lines[i] {
-            return i;
+impl Room {
+    pub fn empty() -> Room {
+        Room {
+            name: [0; 4096],
+            file: [0; FILE],
+            lines: [0; 65536],
         }
-        i += 1;
     }
-    i
-}
 
-pub fn count_lines(lines: &[u8]) -> usize {
-    let mut count: usize = 0;
-    for i in 0..lines.len() {
-        if lines[i] == b'\n' {
-            count = std::num::wrapping_add_usize(count, 1);
+    // None at the end of the list.
+    pub fn next_night<R: Read>(&mut self, reader: &mut R) -> io::Result<Option<Night<'_>>> {
+        let n = read_piece(reader, &mut self.name)?;
+        if n == 0 {
+            return Ok(None);
         }
+        let f = read_piece(reader, &mut self.file)?;
+        let l = read_piece(reader, &mut self.lines)?;
+        Ok(Some(Night {
+            name: &self.name[..n],
+            file: &self.file[..f],
+            lines: &self.lines[..l],
+        }))
     }
-    count
 }

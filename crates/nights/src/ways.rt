@@ -1,92 +1,79 @@
 // Ways of feeding a file to the machine.
-use crate::list::{lesser, within};
 use requests::machine::{State, feed, finish, start};
 
-// The state, and how many bytes of the file are taken and of the output written.
-#[derive(Clone, Copy)]
-struct Run {
+// A file that is fed, how many bytes of it are taken, and how many of the output are written.
+#[derive(Drop)]
+struct Run<'a> {
     state: State,
+    lent: [u8; 65536],
+    file: &'a [u8],
     taken: usize,
+    output: &'a mut [u8],
     written: usize,
 }
 
-fn begun() -> Run {
-    let state = start();
-    Run {
-        state,
-        taken: 0,
-        written: 0,
-    }
-}
-
-// Feeds it the bytes not taken yet of the file's first `to`, with so much room for their lines.
-fn feed_to(
-    run: Run,
-    lent: &mut [u8],
-    file: &[u8],
-    to: usize,
-    output: &mut [u8],
-    room: usize,
-) -> Run {
-    let end = within(to, file);
-    let from = lesser(run.taken, end);
-    let at = within(run.written, output);
-    let until = at + lesser(room, output.len() - at);
-    let did = feed(run.state, lent, &file[from..end], &mut output[at..until]);
-    let state = did.state;
-    Run {
-        state,
-        taken: std::num::wrapping_add_usize(from, did.taken),
-        written: std::num::wrapping_add_usize(at, did.written),
-    }
-}
-
-// Feeds it until it takes nothing. Each time before it takes a byte or more.
-fn run_to(
-    before: Run,
-    lent: &mut [u8],
-    file: &[u8],
-    to: usize,
-    output: &mut [u8],
-    room: usize,
-) -> Run {
-    let mut run = before;
-    let mut left = file.len();
-    while 0 < left {
-        let taken = run.taken;
-        run = feed_to(run, lent, file, to, output, room);
-        if run.taken == taken {
-            return run;
+impl<'a> Run<'a> {
+    fn begun(file: &'a [u8], output: &'a mut [u8]) -> Run<'a> {
+        Run {
+            state: start(),
+            lent: [0; 65536],
+            file,
+            taken: 0,
+            output,
+            written: 0,
         }
-        left -= 1;
     }
-    run
-}
 
-// Answers how many bytes of the output are written, with the lines that end it.
-fn ended(run: Run, file: &[u8], output: &mut [u8]) -> usize {
-    let from = within(run.taken, file);
-    let at = within(run.written, output);
-    let put = finish(run.state, &file[from..], &mut output[at..]);
-    std::num::wrapping_add_usize(at, put)
+    // Feeds it the bytes not taken yet of the file's first `to`, with so much room for their lines. Answers whether it took any.
+    fn feed_once(&mut self, to: usize, room: usize) -> bool {
+        let end = to.min(self.file.len());
+        let from = self.taken.min(end);
+        let at = self.written.min(self.output.len());
+        let until = at + room.min(self.output.len() - at);
+        let fed = feed(
+            self.state,
+            &mut self.lent,
+            &self.file[from..end],
+            &mut self.output[at..until],
+        );
+        self.state = fed.state;
+        self.taken = from + fed.taken;
+        self.written = at + fed.written;
+        0 < fed.taken
+    }
+
+    // Feeds it until it takes nothing. Each time before it takes a byte or more.
+    fn feed_to(&mut self, to: usize, room: usize) {
+        for _ in 0..self.file.len() {
+            if !self.feed_once(to, room) {
+                return;
+            }
+        }
+    }
+
+    // Answers how many bytes of the output are written, with the lines that end it.
+    fn end(&mut self) -> usize {
+        let from = self.taken.min(self.file.len());
+        let at = self.written.min(self.output.len());
+        let output = &mut self.output[at..];
+        at + finish(self.state, &self.file[from..], output)
+    }
 }
 
 // The file's first `cut` bytes, and then all that is left.
 pub fn run_cut(file: &[u8], cut: usize, output: &mut [u8]) -> usize {
-    let mut lent = io::large_buffer();
-    let first = run_to(begun(), &mut lent, file, cut, output, output.len());
-    let whole = run_to(first, &mut lent, file, file.len(), output, output.len());
-    ended(whole, file, output)
+    let room = output.len();
+    let mut run = Run::begun(file, output);
+    run.feed_to(cut, room);
+    run.feed_to(file.len(), room);
+    run.end()
 }
 
 // Each time a byte more, and room for 128 bytes of lines.
 pub fn run_by_bytes(file: &[u8], output: &mut [u8]) -> usize {
-    let mut lent = io::large_buffer();
-    let mut run = begun();
-    let mut to: usize = 0;
-    while to < file.len() {
-        to += 1;
-        run = run_to(run, &mut lent, file, to, output, 128);
+    let mut run = Run::begun(file, output);
+    for to in 1..=file.len() {
+        run.feed_to(to, 128);
     }
-    ended(run, file, output)
+    run.end()
 }

@@ -1,13 +1,72 @@
-// The calls that can answer STATE, by number. Each names the block of one byte at the current pointer where it names one.
+// The calls that can answer STATE. Each names the block of one byte at the current pointer where it names one.
 use arena::{Arena, Outcome};
 use calls::{Allocation, Token};
-use std::io;
-use std::io::Write;
-use trial::say::{answer_number, given_number, text};
+use std::fmt;
+use trial::number::{number_or_0, offset_of, refusal_of};
 
-pub const CALLS: usize = 16;
+#[derive(Clone, Copy)]
+pub enum Call {
+    Allocate,
+    AllocateWithToken,
+    CopyIn,
+    Fill,
+    Grow,
+    GrowZeroed,
+    Shrink,
+    Resize,
+    Free,
+    Cancel,
+    Reset,
+    SetLimit,
+    NoLimit,
+    Lend,
+    LendAnswer,
+    Walk,
+}
 
-// A refusal's number or 0, and the record handed back.
+pub const CALLS: [Call; 16] = [
+    Call::Allocate,
+    Call::AllocateWithToken,
+    Call::CopyIn,
+    Call::Fill,
+    Call::Grow,
+    Call::GrowZeroed,
+    Call::Shrink,
+    Call::Resize,
+    Call::Free,
+    Call::Cancel,
+    Call::Reset,
+    Call::SetLimit,
+    Call::NoLimit,
+    Call::Lend,
+    Call::LendAnswer,
+    Call::Walk,
+];
+
+impl fmt::Display for Call {
+    fn fmt<W: fmt::Write>(&self, f: &mut fmt::Formatter<W>) -> fmt::Result {
+        f.write_str(match self {
+            Call::Allocate => "allocate",
+            Call::AllocateWithToken => "allocate with a token",
+            Call::CopyIn => "copy in",
+            Call::Fill => "fill",
+            Call::Grow => "grow",
+            Call::GrowZeroed => "grow zeroed",
+            Call::Shrink => "shrink",
+            Call::Resize => "resize",
+            Call::Free => "free",
+            Call::Cancel => "cancel",
+            Call::Reset => "reset",
+            Call::SetLimit => "set limit",
+            Call::NoLimit => "no limit",
+            Call::Lend => "lend",
+            Call::LendAnswer => "the answer beside lend",
+            Call::Walk => "walk",
+        })
+    }
+}
+
+// The record handed back, and a refusal's number or 0: the number, since that is what a step of the walk says, which is C's.
 #[derive(Clone, Copy)]
 pub struct Asked {
     pub refusal: usize,
@@ -15,38 +74,24 @@ pub struct Asked {
 }
 
 fn given(got: Allocation) -> Asked {
-    let answer = got.answer;
-    let arena = got.arena;
     Asked {
-        refusal: given_number(answer),
-        arena: arena,
+        refusal: number_or_0(offset_of(got.answer).err()),
+        arena: got.arena,
     }
 }
 
 fn done(got: Outcome) -> Asked {
-    let answer = got.answer;
-    let arena = got.arena;
     Asked {
-        refusal: answer_number(answer),
-        arena: arena,
-    }
-}
-
-// These hand no record back.
-fn said(a: Arena, refusal: usize) -> Asked {
-    Asked {
-        refusal: refusal,
-        arena: a,
+        refusal: number_or_0(refusal_of(got.answer)),
+        arena: got.arena,
     }
 }
 
 fn with_token(a: Arena, region: &[u8]) -> Asked {
     let got = takeback::tokens::allocate_with_token(a, region, 1, 1);
-    let answer = got.answer;
-    let arena = got.arena;
     Asked {
-        refusal: given_number(answer),
-        arena: arena,
+        refusal: number_or_0(offset_of(got.answer).err()),
+        arena: got.arena,
     }
 }
 
@@ -58,76 +103,54 @@ fn cancel(a: Arena, p: usize) -> Asked {
     done(takeback::tokens::cancel(a, p, token))
 }
 
-fn lend_answer(a: Arena, region: &[u8], p: usize) -> usize {
-    let answer = calls::lend::lend_answer(a, region, p, 1, 1);
-    answer_number(answer)
+// This and the next two hand no record back.
+fn lend_answer(a: Arena, region: &[u8], p: usize) -> Asked {
+    Asked {
+        refusal: number_or_0(refusal_of(calls::lend::lend_answer(a, region, p, 1, 1))),
+        arena: a,
+    }
 }
 
 // Nothing is lent where the call beside it says a number.
 fn lend(a: Arena, region: &mut [u8], p: usize) -> Asked {
-    let refusal = lend_answer(a, region, p);
-    let part = calls::lend::lend(a, region, p, 1, 1);
-    if 0 < part.len() {
-        return said(a, 0);
+    let mut asked = lend_answer(a, region, p);
+    if !calls::lend::lend(a, region, p, 1, 1).is_empty() {
+        asked.refusal = 0;
     }
-    said(a, refusal)
+    asked
 }
 
 fn walk(a: Arena, region: &[u8]) -> Asked {
-    let step = host::walk::step_at(region, a, 0);
-    said(a, step.refusal)
-}
-
-fn current_pointer(a: Arena) -> usize {
-    if a.head.count == 0 {
-        return 0;
-    }
-    let last = a.head.count - 1;
-    if last < Arena::PLACES {
-        return a.pointers[last];
-    }
-    0
-}
-
-pub fn ask(which: usize, a: Arena, region: &mut [u8]) -> Asked {
-    let p = current_pointer(a);
-    match which {
-        0 => given(calls::allocate::allocate(a, region, 1, 1)),
-        1 => with_token(a, region),
-        2 => given(calls::write::copy_in(a, region, b"x", 1)),
-        3 => given(calls::write::fill_in(a, region, 1, 1, b'x')),
-        4 => given(reshape::grow::grow(a, region, p, 1, 1, 2, 1)),
-        5 => given(reshape::grow::grow_zeroed(a, region, p, 1, 1, 2, 1)),
-        6 => given(reshape::shrink::shrink(a, region, p, 1, 1, 0, 1)),
-        7 => given(reshape::resize::resize(a, region, p, 1, 1, 2)),
-        8 => done(calls::free::free(a, p, 1, 1)),
-        9 => cancel(a, p),
-        10 => done(a.reset()),
-        11 => done(a.set_allocation_limit(448)),
-        12 => done(a.no_allocation_limit()),
-        13 => lend(a, region, p),
-        14 => said(a, lend_answer(a, region, p)),
-        _ => walk(a, region),
+    Asked {
+        refusal: host::walk::step_at(region, a, 0).refusal,
+        arena: a,
     }
 }
 
-pub fn show_call<W: Write>(out: &mut W, which: usize) -> io::Result<()> {
-    match which {
-        0 => text(out, b"allocate"),
-        1 => text(out, b"allocate with a token"),
-        2 => text(out, b"copy in"),
-        3 => text(out, b"fill"),
-        4 => text(out, b"grow"),
-        5 => text(out, b"grow zeroed"),
-        6 => text(out, b"shrink"),
-        7 => text(out, b"resize"),
-        8 => text(out, b"free"),
-        9 => text(out, b"cancel"),
-        10 => text(out, b"reset"),
-        11 => text(out, b"set limit"),
-        12 => text(out, b"no limit"),
-        13 => text(out, b"lend"),
-        14 => text(out, b"the answer beside lend"),
-        _ => text(out, b"walk"),
+// 0 with no chunk, and with more than the table has places for.
+fn current_pointer(a: &Arena) -> usize {
+    let last = a.head.count.checked_sub(1);
+    last.and_then(|i| a.pointers.get(i)).copied().unwrap_or(0)
+}
+
+pub fn ask(call: Call, a: Arena, region: &mut [u8]) -> Asked {
+    let p = current_pointer(&a);
+    match call {
+        Call::Allocate => given(calls::allocate::allocate(a, region, 1, 1)),
+        Call::AllocateWithToken => with_token(a, region),
+        Call::CopyIn => given(calls::write::copy_in(a, region, b"x", 1)),
+        Call::Fill => given(calls::write::fill_in(a, region, 1, 1, b'x')),
+        Call::Grow => given(reshape::grow::grow(a, region, p, 1, 1, 2, 1)),
+        Call::GrowZeroed => given(reshape::grow::grow_zeroed(a, region, p, 1, 1, 2, 1)),
+        Call::Shrink => given(reshape::shrink::shrink(a, region, p, 1, 1, 0, 1)),
+        Call::Resize => given(reshape::resize::resize(a, region, p, 1, 1, 2)),
+        Call::Free => done(calls::free::free(a, p, 1, 1)),
+        Call::Cancel => cancel(a, p),
+        Call::Reset => done(a.reset()),
+        Call::SetLimit => done(a.set_allocation_limit(448)),
+        Call::NoLimit => done(a.no_allocation_limit()),
+        Call::Lend => lend(a, region, p),
+        Call::LendAnswer => lend_answer(a, region, p),
+        Call::Walk => walk(a, region),
     }
 }

@@ -1,205 +1,156 @@
 // Runs every call that can answer STATE on each record of a table, and holds the answers to the table's verdict. Standard input is the table.
 #![tactic(auto)]
 
-ghost use Rattle.std.specs.Prelude.{◌≤◌};
-
 mod ask;
-mod plant;
 
-use crate::ask::{Asked, CALLS, ask, show_call};
-use crate::plant::{NOTHING, is_pattern, planted, set_pattern};
+use crate::ask::{CALLS, Call, ask};
 use arena::creation::emptied;
-use arena::{Arena, Head};
-use std::io;
+use arena::{Arena, Chunk, Head};
 use std::io::Write;
-use trial::row::{are_same, with_chunk, with_number};
-use trial::say::{number, text};
-use trial::table::{Numbers, begins, find, lesser, read_numbers, read_table, within};
+use std::{fmt, io};
+use trial::row::{NUMBERS, Plant, are_same, put_chunk};
+use trial::table::{each_line, read_numbers, split_before};
 
-// What a call was found to do.
+// What a call does otherwise than the table says.
 #[derive(Clone, Copy)]
-enum Found {
-    AsTheTableSays,
+enum Fault {
     Answered(usize),
     // It was refused, and the record or a byte is another.
     Changed,
 }
 
-fn is_kept(a: Arena, after: Arena, bytes: &[u8]) -> bool {
-    if !are_same(a, after) {
-        return false;
-    }
-    is_pattern(bytes)
-}
-
-// As much of the bytes as the region has is lent: all 4,096 for a longer one.
-fn outcome_of(bytes: &mut [u8], which: usize, a: Arena, refused: bool, place: usize) -> Found {
-    set_pattern(bytes);
-    let n = within(a.head.region, bytes);
-    let asked = ask(which, a, &mut bytes[..n]);
-    let got = asked.arena;
-    let after = planted(got, bytes, place);
-    let refusal = asked.refusal;
-    if (refusal == 1) != refused {
-        return Found::Answered(refusal);
-    }
-    if refusal == 0 {
-        return Found::AsTheTableSays;
-    }
-    if is_kept(a, after, bytes) {
-        return Found::AsTheTableSays;
-    }
-    Found::Changed
-}
-
-// Says what is otherwise than the table says, and answers how many times it was.
-fn show_found<W: Write>(out: &mut W, which: usize, f: Found) -> io::Result<usize> {
-    match f {
-        Found::AsTheTableSays => Ok(0),
-        Found::Answered(refusal) => {
-            text(out, b" ")?;
-            show_call(out, which)?;
-            number(out, b" answered ", refusal)?;
-            text(out, b";")?;
-            Ok(1)
-        }
-        Found::Changed => {
-            text(out, b" ")?;
-            show_call(out, which)?;
-            text(out, b" changed something;")?;
-            Ok(1)
+impl fmt::Display for Fault {
+    fn fmt<W: fmt::Write>(&self, f: &mut fmt::Formatter<W>) -> fmt::Result {
+        match self {
+            Fault::Answered(refusal) => write!(f, "answered {refusal}"),
+            Fault::Changed => f.write_str("changed something"),
         }
     }
 }
 
-fn show_faults<W: Write>(
-    out: &mut W,
-    bytes: &mut [u8],
-    a: Arena,
-    refused: bool,
-) -> io::Result<usize> {
-    let mut faults = 0;
-    for which in 0..CALLS {
-        let one = show_found(out, which, outcome_of(bytes, which, a, refused, NOTHING))?;
-        faults = std::num::wrapping_add_usize(faults, one);
+// The bytes that a call is lent.
+fn pattern() -> [u8; 4096] {
+    let mut bytes = [0; 4096];
+    for (i, b) in bytes.iter_mut().enumerate() {
+        *b = (i % 4096 * 167 % 251) as u8;
     }
-    Ok(faults)
+    bytes
 }
 
-fn show_verdict<W: Write>(
-    out: &mut W,
-    bytes: &mut [u8],
-    a: Arena,
-    refused: bool,
-) -> io::Result<()> {
-    text(out, b":")?;
-    if 0 < show_faults(out, bytes, a, refused)? {
-        return text(out, b" OTHERWISE\n");
+// As much of the bytes as the region has is lent: all 4,096 for a longer one. What is planted is changed after the call.
+fn fault_of(call: Call, a: Arena, refused: bool, plant: Option<Plant>) -> Option<Fault> {
+    let mut bytes = pattern();
+    let n = a.head.region.min(bytes.len());
+    let asked = ask(call, a, &mut bytes[..n]);
+    let mut after = asked.arena;
+    if let Some(plant) = plant {
+        plant.put(&mut after, &mut bytes);
+    }
+    if (asked.refusal == 1) != refused {
+        return Some(Fault::Answered(asked.refusal));
+    }
+    if asked.refusal == 0 || are_same(&a, &after) && bytes == pattern() {
+        return None;
+    }
+    Some(Fault::Changed)
+}
+
+// Answers whether there was any.
+fn show_faults<W: Write>(out: &mut W, a: Arena, refused: bool) -> io::Result<bool> {
+    let mut found = false;
+    for call in CALLS {
+        if let Some(fault) = fault_of(call, a, refused, None) {
+            write!(out, " {call} {fault};")?;
+            found = true;
+        }
+    }
+    Ok(found)
+}
+
+fn show_verdict<W: Write>(out: &mut W, a: Arena, refused: bool) -> io::Result<()> {
+    write!(out, ":")?;
+    if show_faults(out, a, refused)? {
+        return writeln!(out, " OTHERWISE");
     }
     if refused {
-        text(out, b" refused 1 by every call\n")
+        writeln!(out, " refused 1 by every call")
     } else {
-        text(out, b" sound\n")
+        writeln!(out, " sound")
     }
 }
 
-fn number_of(n: Numbers, i: usize) -> usize {
-    if i < 136 { n.of[i] } else { 0 }
-}
-
-fn head_of(n: Numbers) -> Arena {
-    emptied(Head {
-        region: n.of[0],
-        minimum: n.of[1],
-        limited: n.of[2],
-        limit: n.of[3],
+// The head's numbers, and then four for each chunk: its place, start, n and pointer.
+fn record_of(text: &[u8]) -> Arena {
+    let mut numbers = read_numbers(text);
+    let mut a = emptied(Head {
+        region: numbers.next().unwrap_or(0),
+        minimum: numbers.next().unwrap_or(0),
+        limited: numbers.next().unwrap_or(0),
+        limit: numbers.next().unwrap_or(0),
         count: 0,
-    })
-}
-
-fn record_of(n: Numbers) -> Arena {
-    let mut a = with_number(head_of(n), 4, n.of[4]);
-    for i in 0..32 {
-        let at = 5 + 4 * i;
-        if at + 4 <= n.count {
-            a = with_chunk(
-                a,
-                number_of(n, at),
-                number_of(n, at + 1),
-                number_of(n, at + 2),
-                number_of(n, at + 3),
-            );
-        }
+    });
+    a.head.count = numbers.next().unwrap_or(0);
+    for _ in 0..Arena::PLACES {
+        let place = numbers.next();
+        let chunk = (numbers.next(), numbers.next(), numbers.next());
+        let (Some(place), (Some(start), Some(size), Some(pointer))) = (place, chunk) else {
+            break;
+        };
+        let chunk = Chunk {
+            start,
+            size,
+            pointer,
+        };
+        put_chunk(&mut a, place, chunk);
     }
     a
 }
 
 // A verdict, a name, a colon and the record's numbers. Any other line is skipped.
-fn run_line<W: Write>(out: &mut W, bytes: &mut [u8], line: &[u8]) -> io::Result<()> {
-    let refused = begins(line, b"refused ");
-    if !refused {
-        if !begins(line, b"sound ") {
-            return Ok(());
-        }
-    }
-    let colon = find(line, 0, b':');
-    let name = lesser(std::num::wrapping_add_usize(find(line, 0, b' '), 1), colon);
-    text(out, &line[name..colon])?;
-    show_verdict(out, bytes, record_of(read_numbers(&line[colon..])), refused)
+fn run_line<W: Write>(out: &mut W, line: &[u8]) -> io::Result<()> {
+    let (refused, rest) = if let Some(rest) = line.strip_prefix(b"refused ") {
+        (true, rest)
+    } else if let Some(rest) = line.strip_prefix(b"sound ") {
+        (false, rest)
+    } else {
+        return Ok(());
+    };
+    let (name, numbers) = split_before(rest, b':');
+    out.write_all(name)?;
+    show_verdict(out, record_of(numbers), refused)
 }
 
-fn run_lines<W: Write>(out: &mut W, bytes: &mut [u8], table: &[u8]) -> io::Result<()> {
-    let mut from = 0;
-    let mut left = table.len();
-    while 0 < left {
-        let end = find(table, from, b'\n');
-        let start = lesser(from, end);
-        run_line(out, bytes, &table[start..end])?;
-        from = std::num::wrapping_add_usize(end, 1);
-        left = if from < table.len() { left - 1 } else { 0 };
-    }
-    Ok(())
-}
-
-fn is_changed(f: Found) -> bool {
-    match f {
-        Found::AsTheTableSays => false,
-        Found::Answered(_) => false,
-        Found::Changed => true,
-    }
-}
+// The first byte, the last one and one between them.
+const BYTES: [usize; 3] = [0, 2049, 4095];
 
 // How many of the planted changes are seen after a call that is refused.
-fn seen(bytes: &mut [u8], which: usize, a: Arena) -> usize {
-    let mut count = 0;
-    for place in 0..NOTHING {
-        if is_changed(outcome_of(bytes, which, a, true, place)) {
-            count = std::num::wrapping_add_usize(count, 1);
-        }
-    }
-    count
+fn seen(call: Call, a: Arena) -> usize {
+    let numbers = (0..NUMBERS).map(Plant::Number);
+    let bytes = BYTES.iter().map(|i| Plant::Byte(*i));
+    numbers
+        .chain(bytes)
+        .filter(|plant| matches!(fault_of(call, a, true, Some(*plant)), Some(Fault::Changed)))
+        .count()
 }
 
-fn show_planted<W: Write>(out: &mut W, bytes: &mut [u8], a: Arena) -> io::Result<()> {
-    for which in 0..CALLS {
-        text(out, b"planted after ")?;
-        show_call(out, which)?;
-        number(out, b": ", seen(bytes, which, a))?;
-        number(out, b" of ", NOTHING)?;
-        text(out, b" changes seen\n")?;
+fn show_planted<W: Write>(out: &mut W, a: Arena) -> io::Result<()> {
+    for call in CALLS {
+        let seen = seen(call, a);
+        let all = NUMBERS + BYTES.len();
+        writeln!(out, "planted after {call}: {seen} of {all} changes seen")?;
     }
     Ok(())
 }
 
 fn main(rt: HostRuntime) -> io::Result<()> {
-    let mut bytes = [0u8; 4096];
-    let mut table = [0u8; 65536];
-    let n = read_table(&mut rt.stdin(), &mut table)?;
     let mut out = rt.stdout();
-    run_lines(&mut out, &mut bytes, &table[..n])?;
-    let unsound = Numbers {
+    each_line(&mut rt.stdin(), |line| run_line(&mut out, line))?;
+    let unsound = Head {
+        region: 33,
+        minimum: 33,
+        limited: 33,
+        limit: 33,
         count: 0,
-        of: [33; 136],
     };
-    show_planted(&mut out, &mut bytes, head_of(unsound))
+    show_planted(&mut out, emptied(unsound))
 }

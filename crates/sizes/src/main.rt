@@ -12,52 +12,58 @@ use arena::placing::{Place, lowest_place};
 use arena::sizing::usable_size;
 use arena::sound::{is_allowed_align, is_sound};
 use arena::{Arena, Chunk, Head};
-use std::io;
 use std::io::Write;
-use trial::row::{with_chunk, with_number};
-use trial::say::{number, text};
-use trial::table::{Numbers, begins, find, lesser, read_numbers, read_table};
+use std::{fmt, io};
+use trial::row::put_chunk;
+use trial::table::{each_line, first_numbers, read_numbers, split_before};
 
-// What a rule says. It isn't asked where the record is unsound or the request isn't allowed.
+// What a rule says.
 #[derive(Clone, Copy)]
 enum Said {
-    Usable(usize),
+    Number(usize),
     Chunk(Chunk),
     Unserved(usize),
-    Place(usize),
     Nothing,
-    NotAsked,
+}
+
+impl fmt::Display for Said {
+    fn fmt<W: fmt::Write>(&self, f: &mut fmt::Formatter<W>) -> fmt::Result {
+        match *self {
+            Said::Number(n) => write!(f, "{n}"),
+            Said::Chunk(c) => write!(f, "{} at {}", c.size, c.start),
+            Said::Unserved(n) => write!(f, "{n} not served"),
+            Said::Nothing => f.write_str("none"),
+        }
+    }
 }
 
 fn is_request(size: usize, align: usize) -> bool
     ensures { (result ≡ true) → (size ≤ most) × (allowed_align align ≡ true) }
 {
-    if Arena::MOST < size {
-        return false;
-    }
-    is_allowed_align(align)
+    size <= Arena::MOST && is_allowed_align(align)
 }
 
-fn ask_usable(base: usize, size: usize, align: usize) -> Said {
+// A rule isn't asked where the record is unsound or the request isn't allowed.
+fn ask_usable(base: usize, size: usize, align: usize) -> Option<Said> {
     if Arena::MOST < base {
-        return Said::NotAsked;
+        return None;
     }
     if !is_request(size, align) {
-        return Said::NotAsked;
+        return None;
     }
-    Said::Usable(usable_size(base, size, align))
+    Some(Said::Number(usable_size(base, size, align)))
 }
 
 // One rung, whether the ladder comes to it or not.
-fn ask_rung(a: Arena, base: usize, size: usize, align: usize) -> Said {
+fn ask_rung(a: Arena, base: usize, size: usize, align: usize) -> Option<Said> {
     if !is_sound(a.head, &a.starts, &a.sizes, &a.pointers) {
-        return Said::NotAsked;
+        return None;
     }
     if Arena::MOST < base {
-        return Said::NotAsked;
+        return None;
     }
     if !is_request(size, align) {
-        return Said::NotAsked;
+        return None;
     }
     let held = held_bytes(a.head, &a.starts, &a.sizes, &a.pointers);
     let got = take_rung(
@@ -70,153 +76,115 @@ fn ask_rung(a: Arena, base: usize, size: usize, align: usize) -> Said {
         align,
         base,
     );
-    match got {
+    Some(match got {
         NewChunk::Taken(c) => Said::Chunk(c),
         NewChunk::Nothing => Said::Unserved(usable_size(base, size, align)),
-    }
+    })
 }
 
-fn ask_ladder(a: Arena, size: usize, align: usize) -> Said {
+fn ask_ladder(a: Arena, size: usize, align: usize) -> Option<Said> {
     if !is_sound(a.head, &a.starts, &a.sizes, &a.pointers) {
-        return Said::NotAsked;
+        return None;
     }
     if !is_request(size, align) {
-        return Said::NotAsked;
+        return None;
     }
     let got = climb(a.head, &a.starts, &a.sizes, &a.pointers, size, align);
-    match got {
+    Some(match got {
         NewChunk::Taken(c) => Said::Chunk(c),
         NewChunk::Nothing => Said::Nothing,
-    }
+    })
 }
 
-fn ask_place(a: Arena, n: usize, multiple: usize) -> Said {
+fn ask_place(a: Arena, n: usize, multiple: usize) -> Option<Said> {
     if !is_sound(a.head, &a.starts, &a.sizes, &a.pointers) {
-        return Said::NotAsked;
+        return None;
     }
     if Arena::MOST < n {
-        return Said::NotAsked;
+        return None;
     }
     if multiple == 0 {
-        return Said::NotAsked;
+        return None;
     }
     if Arena::LARGEST_ALIGN < multiple {
-        return Said::NotAsked;
+        return None;
     }
     let got = lowest_place(a.head, &a.starts, &a.sizes, &a.pointers, multiple, n);
-    match got {
-        Place::At(at) => Said::Place(at),
+    Some(match got {
+        Place::At(at) => Said::Number(at),
         Place::Nowhere => Said::Nothing,
+    })
+}
+
+fn show_said<W: Write>(out: &mut W, said: Option<Said>) -> io::Result<()> {
+    match said {
+        Some(said) => writeln!(out, " = {said}"),
+        None => writeln!(out, " not asked"),
     }
 }
 
-fn show_said<W: Write>(out: &mut W, s: Said) -> io::Result<()> {
-    match s {
-        Said::Usable(n) => number(out, b" = ", n)?,
-        Said::Chunk(c) => {
-            number(out, b" = ", c.size)?;
-            number(out, b" at ", c.start)?;
-        }
-        Said::Unserved(n) => {
-            number(out, b" = ", n)?;
-            text(out, b" not served")?;
-        }
-        Said::Place(at) => number(out, b" = ", at)?,
-        Said::Nothing => text(out, b" = none")?,
-        Said::NotAsked => text(out, b" not asked")?,
-    }
-    text(out, b"\n")
-}
-
-fn number_of(n: Numbers, i: usize) -> usize {
-    if i < 136 { n.of[i] } else { 0 }
-}
-
-// With a limit the numbers are even in number: the region's length, the limit, and two for each chunk.
-fn is_limited(n: Numbers) -> bool {
-    n.count % 2 == 0
-}
-
-fn head_of(n: Numbers) -> Arena {
-    let mut head = Head {
-        region: n.of[0],
+// The region's length, the limit where there is one, and the chunks, each with its n and its start; their pointers are at the start. With a limit the numbers
+// are even in number.
+fn record_of(text: &[u8]) -> Arena {
+    let mut numbers = read_numbers(text);
+    let is_limited = numbers.count() % 2 == 0;
+    let mut a = emptied(Head {
+        region: numbers.next().unwrap_or(0),
         minimum: 1,
         limited: 0,
         limit: 0,
         count: 0,
-    };
-    if is_limited(n) {
-        head.limited = 1;
-        head.limit = n.of[1];
+    });
+    if is_limited {
+        a.head.limited = 1;
+        a.head.limit = numbers.next().unwrap_or(0);
     }
-    emptied(head)
-}
-
-// Where the chunks begin among the numbers.
-fn first_chunk(n: Numbers) -> usize
-    ensures { result ≤ 2 }
-{
-    if is_limited(n) { 2 } else { 1 }
-}
-
-// The chunks stand after the region's length and the limit, each with its n and its start; their pointers are at the start.
-fn record_of(n: Numbers) -> Arena {
-    let mut a = head_of(n);
-    for i in 0..32 {
-        let at = first_chunk(n) + 2 * i;
-        if at + 2 <= n.count {
-            let start = number_of(n, at + 1);
-            a = with_number(with_chunk(a, i, start, number_of(n, at), start), 4, i + 1);
-        }
+    for place in 0..Arena::PLACES {
+        let (Some(size), Some(start)) = (numbers.next(), numbers.next()) else {
+            break;
+        };
+        let chunk = Chunk {
+            start,
+            size,
+            pointer: start,
+        };
+        put_chunk(&mut a, place, chunk);
+        a.head.count = place + 1;
     }
     a
 }
 
 // A question that begins otherwise is skipped.
 fn show_question<W: Write>(out: &mut W, a: Arena, question: &[u8]) -> io::Result<()> {
-    let n = read_numbers(question);
-    if begins(question, b": rung ") {
-        return show_said(out, ask_rung(a, n.of[0], n.of[1], n.of[2]));
+    let [x, y, z] = first_numbers::<3>(question);
+    if question.starts_with(b": rung ") {
+        return show_said(out, ask_rung(a, x, y, z));
     }
-    if begins(question, b": ladder ") {
-        return show_said(out, ask_ladder(a, n.of[0], n.of[1]));
+    if question.starts_with(b": ladder ") {
+        return show_said(out, ask_ladder(a, x, y));
     }
-    if begins(question, b": place ") {
-        return show_said(out, ask_place(a, n.of[0], n.of[1]));
+    if question.starts_with(b": place ") {
+        return show_said(out, ask_place(a, x, y));
     }
     Ok(())
 }
 
 // Lines that begin otherwise than a question are skipped.
 fn run_line<W: Write>(out: &mut W, line: &[u8]) -> io::Result<()> {
-    if begins(line, b"usable ") {
-        text(out, line)?;
-        let n = read_numbers(line);
-        return show_said(out, ask_usable(n.of[0], n.of[1], n.of[2]));
+    if line.starts_with(b"usable ") {
+        out.write_all(line)?;
+        let [base, size, align] = first_numbers::<3>(line);
+        return show_said(out, ask_usable(base, size, align));
     }
-    if begins(line, b"region ") {
-        text(out, line)?;
-        let colon = find(line, 0, b':');
-        return show_question(out, record_of(read_numbers(&line[..colon])), &line[colon..]);
-    }
-    Ok(())
-}
-
-fn run_lines<W: Write>(out: &mut W, table: &[u8]) -> io::Result<()> {
-    let mut from = 0;
-    let mut left = table.len();
-    while 0 < left {
-        let end = find(table, from, b'\n');
-        let start = lesser(from, end);
-        run_line(out, &table[start..end])?;
-        from = std::num::wrapping_add_usize(end, 1);
-        left = if from < table.len() { left - 1 } else { 0 };
+    if line.starts_with(b"region ") {
+        out.write_all(line)?;
+        let (record, question) = split_before(line, b':');
+        return show_question(out, record_of(record), question);
     }
     Ok(())
 }
 
 fn main(rt: HostRuntime) -> io::Result<()> {
-    let mut table = [0u8; 65536];
-    let n = read_table(&mut rt.stdin(), &mut table)?;
-    run_lines(&mut rt.stdout(), &table[..n])
+    let mut out = rt.stdout();
+    each_line(&mut rt.stdin(), |line| run_line(&mut out, line))
 }

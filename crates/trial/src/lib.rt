@@ -1,6 +1,6 @@
-// What the programs that hold the arena to a table share: the table's text, the record as a row of numbers, and how a line is written.
+// What the programs that hold the arena to a table share: the table's text, the record as a row, changes that are planted in it, and the numbers of refusals.
 #![tactic(auto)]
 
+pub mod number;
 pub mod row;
-pub mod say;
 pub mod table;

@@ -1,89 +1,76 @@
-// The record as a row of 101 numbers: region, minimum, limited, limit and count, and then the columns of starts, sizes and pointers.
-use arena::{Arena, Head};
+// The record as a row of 101 numbers: region, minimum, limited, limit and count, and then the columns of starts, sizes and pointers. And changes that are planted in
+// a record or in bytes after a call, to see that each is seen.
+ghost use Rattle.std.specs.Prelude.{◌≡◌, ◌≤◌, ◌↔◌, ℕ, IsTrue};
+ghost use Rattle.trial.specs.declared.row.Plant.TheVariants.{Number, Byte};
+
+use arena::{Arena, Chunk};
 
 pub const NUMBERS: usize = 101;
 
-fn head_number(h: Head, k: usize) -> usize {
+// None past the end of the row.
+fn number_at(a: &mut Arena, k: usize) -> Option<&mut usize> {
     match k {
-        0 => h.region,
-        1 => h.minimum,
-        2 => h.limited,
-        3 => h.limit,
-        _ => h.count,
+        0 => Some(&mut a.head.region),
+        1 => Some(&mut a.head.minimum),
+        2 => Some(&mut a.head.limited),
+        3 => Some(&mut a.head.limit),
+        4 => Some(&mut a.head.count),
+        5..=36 => a.starts.get_mut(k - 5),
+        37..=68 => a.sizes.get_mut(k - 37),
+        _ => a.pointers.get_mut(k - 69),
     }
 }
 
-// 0 past the end of the row.
-pub fn number_at(a: Arena, k: usize) -> usize {
-    if k < 5 {
-        return head_number(a.head, k);
+// Puts a chunk in a place of the table, where there is such a place.
+pub fn put_chunk(a: &mut Arena, place: usize, c: Chunk)
+    ensures head { a.new.head ≡ a.old.head }
+    ensures past { 32 ≤ place → a.new ≡ a.old }
+{
+    if place < Arena::PLACES {
+        a.starts[place] = c.start;
+        a.sizes[place] = c.size;
+        a.pointers[place] = c.pointer;
     }
-    let i = k - 5;
-    if i < 32 {
-        return a.starts[i];
-    }
-    let j = i - 32;
-    if j < 32 {
-        return a.sizes[j];
-    }
-    let last = j - 32;
-    if last < 32 {
-        return a.pointers[last];
-    }
-    0
 }
 
-fn with_head_number(h: Head, k: usize, value: usize) -> Head {
-    let mut out = h;
-    match k {
-        0 => out.region = value,
-        1 => out.minimum = value,
-        2 => out.limited = value,
-        3 => out.limit = value,
-        _ => out.count = value,
-    }
-    out
+pub fn are_same(a: &Arena, b: &Arena) -> bool
+    ensures { IsTrue result ↔ (a.now ≡ b.now) }
+{
+    a.head.region == b.head.region
+        && a.head.minimum == b.head.minimum
+        && a.head.limited == b.head.limited
+        && a.head.limit == b.head.limit
+        && a.head.count == b.head.count
+        && a.starts == b.starts
+        && a.sizes == b.sizes
+        && a.pointers == b.pointers
 }
 
-// Past the end of the row nothing changes.
-pub fn with_number(a: Arena, k: usize, value: usize) -> Arena {
-    let mut out = a;
-    if k < 5 {
-        out.head = with_head_number(a.head, k, value);
-        return out;
-    }
-    let i = k - 5;
-    if i < 32 {
-        out.starts[i] = value;
-        return out;
-    }
-    let j = i - 32;
-    if j < 32 {
-        out.sizes[j] = value;
-        return out;
-    }
-    let last = j - 32;
-    if last < 32 {
-        out.pointers[last] = value;
-    }
-    out
+#[derive(Clone, Copy)]
+pub enum Plant {
+    // A number of the row is one more.
+    Number(usize),
+    // A byte has another last bit.
+    Byte(usize),
 }
 
-// A chunk in a place of the table, where there is such a place.
-pub fn with_chunk(a: Arena, place: usize, start: usize, n: usize, pointer: usize) -> Arena {
-    if 32 <= place {
-        return a;
-    }
-    let with_start = with_number(a, 5 + place, start);
-    let with_size = with_number(with_start, 37 + place, n);
-    with_number(with_size, 69 + place, pointer)
-}
-
-pub fn are_same(a: Arena, b: Arena) -> bool {
-    for k in 0..NUMBERS {
-        if number_at(a, k) != number_at(b, k) {
-            return false;
+impl Plant {
+    // Past the end of the row or of the bytes nothing changes.
+    pub fn put(self, a: &mut Arena, bytes: &mut [u8])
+        ensures number { (k : ℕ) → self ≡ Number k → bytes.new ≡ bytes.old }
+        ensures byte { (i : ℕ) → self ≡ Byte i → a.new ≡ a.old }
+    {
+        match self {
+            Plant::Number(k) => {
+                if let Some(number) = number_at(a, k) {
+                    *number = number.wrapping_add(1);
+                }
+            }
+            Plant::Byte(i) => {
+                if let Some(byte) = bytes.get_mut(i) {
+                    *byte ^= 1;
+                }
+            }
         }
     }
-    true
 }

@@ -1,33 +1,44 @@
 // A table as text: a case a line, with its numbers in decimal.
-ghost use Rattle.std.specs.Prelude.{◌≡◌, ◌<◌, ◌≤◌, ℕ, List, IfOk, OnErr, length, take};
+ghost use Rattle.std.specs.Prelude.{◌≡◌, ◌≢◌, ◌<◌, ◌≤◌, ◌++◌, ℕ, List, All, IfOk, OnErr, length, slice_index, take};
 ghost use Rattle.std.specs.Io.{ReadsAtMost};
 ghost use Rattle.std.specs.Io.KnownBytes.{Consumes, IsAtEnd};
+ghost use Rattle.std.specs.Iterator.{at_most};
 
 use std::io;
-use std::io::Read;
+use std::io::{ErrorKind, Read};
 
-pub fn lesser(a: usize, b: usize) -> usize
-    ensures upper_bound { result ≤ a }
-    ensures upper_bound_2 { result ≤ b }
-{
-    if a < b { a } else { b }
-}
+const LONGEST: usize = 65536;
 
-// As many of the bytes as there are, up to n.
-pub fn within(n: usize, bytes: &[u8]) -> usize
-    ensures bound { result ≤ length bytes.now }
-    ensures prefix { result ≡ length (take result bytes.now) }
-{
-    lesser(n, bytes.len())
+// A reader that reads again where a signal interrupted a read.
+#[derive(Drop)]
+pub struct Retrying<R>(pub R);
+
+impl<R: Read> Read for Retrying<R> {
+    ghost remaining = { λ s. R.remaining s.0 };
+
+    fn read(&mut self, buf: &mut [u8]) -> io::Result<usize> {
+        for _ in 0..u64::MAX {
+            match self.0.read(buf) {
+                Ok(n) => return Ok(n),
+                Err(e) => {
+                    if e.kind() != ErrorKind::Interrupted {
+                        return Err(e);
+                    }
+                }
+            }
+        }
+        self.0.read(buf)
+    }
 }
 
 // Reads until the bytes are full or the input ends, and answers how many were read. Where a read fails, the reader has lost what earlier reads took; the bytes may
-// be any.
-pub fn read_table<R: Read>(input: &mut R, bytes: &mut [u8]) -> io::Result<usize>
+// be any, and are as many.
+pub fn read_full<R: Read>(input: &mut R, bytes: &mut [u8]) -> io::Result<usize>
     ensures bound { ReadsAtMost result bytes.new }
     ensures taken { IfOk result (λ n. Consumes (R.remaining input.old) (R.remaining input.new) (take n bytes.new)) }
     ensures end { IfOk result (λ n. n < length bytes.new → IsAtEnd (R.remaining input.new)) }
     ensures err { OnErr result ((lost : List ℕ) × Consumes (R.remaining input.old) (R.remaining input.new) lost × (length lost ≤ length bytes.old)) }
+    ensures length { OnErr result (length bytes.new ≡ length bytes.old) }
 {
     let mut done = 0;
     while done < bytes.len() {
@@ -40,113 +51,89 @@ pub fn read_table<R: Read>(input: &mut R, bytes: &mut [u8]) -> io::Result<usize>
     Ok(done)
 }
 
-// Where the byte first stands from an index on; the end of the bytes where it doesn't.
-pub fn find(bytes: &[u8], from: usize, b: u8) -> usize
-    ensures bound { result ≤ length bytes.now }
-    ensures prefix { result ≡ length (take result bytes.now) }
+// Reads a table of up to 65,536 bytes and runs each of its lines.
+pub fn each_line<R: Read, F: FnMut(&[u8]) -> io::Result<()>>(
+    input: &mut R,
+    mut run_line: F,
+) -> io::Result<()>
+    requires { F.IsAlwaysCallable run_line }
 {
-    let mut i = within(from, bytes);
-    while i < bytes.len() {
-        if bytes[i] == b {
-            return within(i, bytes);
-        }
-        i += 1;
+    let mut table = [0u8; LONGEST];
+    let n = read_full(input, &mut table)?;
+    for line in table[..n].split(|b| *b == b'\n') {
+        run_line(line)?;
     }
-    within(i, bytes)
+    Ok(())
 }
 
-// Whether the bytes begin with a word.
-pub fn begins(bytes: &[u8], word: &[u8]) -> bool {
-    if bytes.len() < word.len() {
-        return false;
-    }
-    for i in 0..word.len() {
-        if bytes[i] != word[i] {
-            return false;
-        }
-    }
-    true
+// The bytes before the first of a kind, and those from it on: all and none where there is none of it.
+pub fn split_before(bytes: &[u8], b: u8) -> (&[u8], &[u8])
+    ensures whole { result.0.now ++ result.1.now ≡ bytes.now }
+    ensures before { All (λ x. x ≢ b) result.0.now }
+    ensures first { 0 < length result.1.now → slice_index result.1.now 0 ≡ b }
+{
+    let at = bytes.iter().position(|x| *x == b).unwrap_or(bytes.len());
+    bytes.split_at(at)
 }
 
-// The numbers of a line in their order, 0 in the places after them. Those past the 136th are left out.
+// The numbers of a line in their order. Those past the 136th are left out.
 #[derive(Clone, Copy)]
-pub struct Numbers {
-    pub count: usize,
-    pub of: [usize; 136],
+pub struct Numbers<'a> {
+    rest: &'a [u8],
+    left: usize,
 }
 
-// Open says that the last byte was a digit of a number of this value so far.
-#[derive(Clone, Copy)]
-struct Reading {
-    numbers: Numbers,
-    open: bool,
-    value: usize,
-}
-
-fn is_digit(b: u8) -> bool {
-    if b < b'0' {
-        return false;
+pub fn read_numbers(line: &[u8]) -> Numbers<'_>
+    ensures line { result.rest.now ≡ line.now }
+    ensures most { result.left ≡ 136 }
+{
+    Numbers {
+        rest: line,
+        left: 136,
     }
-    b <= b'9'
 }
 
 // A number that doesn't fit in 64 bits stops at what fits.
-fn with_digit(value: usize, b: u8) -> usize {
-    if b < b'0' {
+fn with_digit(value: usize, digit: u8) -> usize {
+    if usize::MAX / 10 < value {
         return value;
     }
-    if 1844674407370955161 < value {
-        return value;
-    }
-    let digit = b - b'0';
-    std::num::wrapping_add_usize(value * 10, digit as usize)
+    (value * 10).wrapping_add(usize::from(digit.wrapping_sub(b'0')))
 }
 
-fn with_value(numbers: Numbers, value: usize) -> Numbers {
-    let mut out = numbers;
-    let i = numbers.count;
-    if i < 136 {
-        out.of[i] = value;
-        out.count = i + 1;
-    }
-    out
-}
+impl Iterator for Numbers<'_> {
+    type Item = usize;
 
-fn closed(r: Reading) -> Reading {
-    if !r.open {
-        return r;
-    }
-    Reading {
-        numbers: with_value(r.numbers, r.value),
-        open: false,
-        value: 0,
-    }
-}
+    ghost remaining = { λ s. at_most s.left };
 
-fn with_byte(r: Reading, b: u8) -> Reading {
-    if !is_digit(b) {
-        return closed(r);
-    }
-    let numbers = r.numbers;
-    Reading {
-        numbers: numbers,
-        open: true,
-        value: with_digit(r.value, b),
+    fn next(&mut self) -> Option<usize> {
+        if self.left == 0 {
+            return None;
+        }
+        let from = self.rest.iter().position(|b| b.is_ascii_digit())?;
+        let digits = &self.rest[from..];
+        let end = digits
+            .iter()
+            .position(|b| !b.is_ascii_digit())
+            .unwrap_or(digits.len());
+        self.left -= 1;
+        self.rest = &digits[end..];
+        Some(
+            digits[..end]
+                .iter()
+                .fold(0, |value, digit| with_digit(value, *digit)),
+        )
     }
 }
 
-pub fn read_numbers(line: &[u8]) -> Numbers {
-    let mut reading = Reading {
-        numbers: Numbers {
-            count: 0,
-            of: [0; 136],
-        },
-        open: false,
-        value: 0,
-    };
-    for i in 0..line.len() {
-        reading = with_byte(reading, line[i]);
+// The first N numbers of a line, 0 in the places of those that it hasn't.
+pub fn first_numbers<const N: usize>(line: &[u8]) -> [usize; N]
+    ensures { N ≡ length result }
+{
+    let mut numbers = read_numbers(line);
+    let mut row = [0; N];
+    for place in row.iter_mut() {
+        *place = numbers.next().unwrap_or(0);
     }
-    let last = closed(reading);
-    last.numbers
+    row
 }

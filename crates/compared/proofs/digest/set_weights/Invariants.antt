@@ -2,5 +2,5 @@
 use Rattle.std.proofs.Common.{◌<◌}
 use Rattle.compared.proofs.digest.set_weights.Given as goal
 
-abbrev pub invariant-loop-i : goal.invariant-loop-i
-invariant-loop-i l = l.w < 2147483648
+abbrev pub invariant-loop-weight : goal.invariant-loop-weight
+invariant-loop-weight l = l.w < 2147483648

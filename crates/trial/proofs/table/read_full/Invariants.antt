@@ -1,7 +1,7 @@
--- `trial::table::read_table` ends, since each turn leaves less to fill, and what it filled is what it took.
+-- `trial::table::read_full` ends, since each turn leaves less to fill, and what it filled is what it took.
 use Rattle.std.proofs.Common.{length, take, ◌-◌, ◌≤◌}
 use Rattle.std.specs.Io.KnownBytes.{Consumes}
-use Rattle.trial.proofs.table.read_table.Given as goal
+use Rattle.trial.proofs.table.read_full.Given as goal
 
 abbrev pub invariant-loop-done : goal.invariant-loop-done
 invariant-loop-done g l = record {
