@@ -11,7 +11,7 @@ pub mod reset;
 pub mod sizing;
 pub mod sound;
 
-ghost use Rattle.std.specs.Prelude.{◌≡◌};
+ghost use Rattle.std.specs.Prelude.{◌≡◌, ◌≤◌};
 ghost use Rattle.arena.specs.Refusals.{number_of};
 
 // Everything of the record but its table. The limit is two numbers, so that no limit has one form: both zero.
@@ -59,7 +59,8 @@ pub enum Refusal {
 
 impl Refusal {
     pub fn number(self) -> usize
-        ensures { result ≡ number_of self }
+        ensures value { result ≡ number_of self }
+        ensures bound { result ≤ 8 }
     {
         self as usize
     }

@@ -19,4 +19,4 @@ returns-in-Ok-None c =
 pub returns-in-Err : goal.returns-in-Err
 unfolding line_of reply_said
 returns-in-Err c =
-    rw (c.in-Err.is, ← c.number.ensures) (put_then (omega arith) c.put_number-next.ensures.put c.put_ended-in-Err.ensures)
+    rw (c.in-Err.is, ← c.number.ensures.value) (put_then (omega arith) c.put_number-next.ensures.put c.put_ended-in-Err.ensures)
