@@ -2,13 +2,13 @@
 #![tactic(auto)]
 
 mod blocks;
+mod call;
 mod creating;
 mod limits;
 mod moving;
 mod planting;
 mod refusing;
 mod rewinding;
-mod say;
 mod steps;
 mod store;
 
@@ -22,6 +22,5 @@ fn main(rt: HostRuntime) -> io::Result<()> {
     limits::run(&mut out)?;
     moving::run(&mut out)?;
     rewinding::run(&mut out)?;
-    let new = steps::create(&mut out, 16384, 1, 448)?;
-    planting::run(&mut out, new)
+    planting::run(&mut out)
 }

@@ -1,166 +1,119 @@
 // Changes that are planted, to see that each is seen.
-use crate::steps::{
-    allocate, allocate_with_token, copy_in, fill_in, free, grow, grow_zeroed, lend, resize, shrink,
+use crate::call::Call;
+use crate::call::Call::{
+    Allocate, AllocateWithToken, CopyIn, Create, Fill, Free, Grow, GrowZeroed, Lend, Resize, Shrink,
 };
-use crate::store::{A_NUMBER, BEFORE_THE_WRITE, Store, plant, same_outside, same_store, with_next};
-use arena::Arena;
+use crate::steps::begin;
+use crate::store::Planted::{BeforeTheWrite, Byte, Number};
+use crate::store::{Planted, Store};
 use std::io;
 use std::io::Write;
-use trial::row::NUMBERS;
-use trial::say::{number, text};
+use trial::row::{NUMBERS, Plant};
 
-fn with_record(s: Store, a: Arena) -> Store {
-    let b = s.bytes;
-    Store {
-        arena: a,
-        lent: s.lent,
-        plant: s.plant,
-        bytes: b,
-    }
+fn changed_numbers<W: Write>(out: &mut W, s: &Store) -> io::Result<()> {
+    let changed = |k: &usize| !s.is_same(&s.put(Plant::Number(*k)));
+    let seen = (0..NUMBERS).filter(changed).count();
+    writeln!(
+        out,
+        "planted: seen {seen} of {NUMBERS} changed numbers of the record"
+    )
 }
 
-fn changed_numbers<W: Write>(out: &mut W, s: Store) -> io::Result<()> {
-    let mut seen = 0;
-    for k in 0..NUMBERS {
-        if !same_store(s, with_record(s, with_next(s.arena, k))) {
-            seen = std::num::wrapping_add_usize(seen, 1);
-        }
-    }
-    number(out, b"planted: seen ", seen)?;
-    number(out, b" of ", NUMBERS)?;
-    text(out, b" changed numbers of the record\n")
-}
-
-fn with_byte(s: Store, at: usize) -> Store {
-    let a = s.arena;
-    let mut b = s.bytes;
-    plant(&mut b, at);
-    Store {
-        arena: a,
-        lent: s.lent,
-        plant: s.plant,
-        bytes: b,
-    }
-}
-
-fn show_same<W: Write>(out: &mut W, same: bool) -> io::Result<()> {
-    if same {
-        text(out, b": unchanged\n")
+fn show_same<W: Write>(out: &mut W, is_same: bool) -> io::Result<()> {
+    if is_same {
+        writeln!(out, ": unchanged")
     } else {
-        text(out, b": CHANGED\n")
+        writeln!(out, ": CHANGED")
     }
 }
 
-fn changed_byte<W: Write>(out: &mut W, s: Store, at: usize) -> io::Result<()> {
-    number(out, b"planted: byte ", at)?;
-    show_same(out, same_store(s, with_byte(s, at)))
-}
-
-fn changed_outside<W: Write>(
-    out: &mut W,
-    s: Store,
-    at: usize,
-    from: usize,
-    to: usize,
-) -> io::Result<()> {
-    number(out, b"planted: byte ", at)?;
-    number(out, b" beside ", from)?;
-    number(out, b" to ", to)?;
-    let t = with_byte(s, at);
-    let before = s.bytes;
-    let after = t.bytes;
-    show_same(out, same_outside(&before, &after, from, to))
-}
-
-fn with_plant(s: Store, plant: usize) -> Store {
-    let a = s.arena;
-    let b = s.bytes;
-    Store {
-        arena: a,
-        lent: s.lent,
-        plant: plant,
-        bytes: b,
+fn changed_bytes<W: Write>(out: &mut W, s: &Store) -> io::Result<()> {
+    for at in [0, 8191, 16383] {
+        write!(out, "planted: byte {at}")?;
+        show_same(out, s.is_same(&s.put(Plant::Byte(at))))?;
     }
-}
-
-fn byte<W: Write>(out: &mut W, s: Store, at: usize) -> io::Result<Store> {
-    number(out, b"planted: byte ", at)?;
-    text(out, b" after ")?;
-    Ok(with_plant(s, at))
-}
-
-fn a_number<W: Write>(out: &mut W, s: Store) -> io::Result<Store> {
-    text(out, b"planted: a number of the record after ")?;
-    Ok(with_plant(s, A_NUMBER))
-}
-
-fn before_the_write<W: Write>(out: &mut W, s: Store) -> io::Result<Store> {
-    text(out, b"planted: the block's first byte before the write of ")?;
-    Ok(with_plant(s, BEFORE_THE_WRITE))
-}
-
-fn served<W: Write>(out: &mut W, s: Store) -> io::Result<()> {
-    let planted = byte(out, s, 0)?;
-    allocate(out, planted, 1, 1)?;
-    let planted = byte(out, s, 0)?;
-    allocate_with_token(out, planted, 1, 1)?;
-    let planted = byte(out, s, 437)?;
-    copy_in(out, planted, b"abcdefghij", 1)?;
-    let planted = byte(out, s, 448)?;
-    copy_in(out, planted, b"abcdefghij", 1)?;
-    let planted = byte(out, s, 446)?;
-    fill_in(out, planted, 1, 1, b'x')?;
-    let planted = byte(out, s, 448)?;
-    fill_in(out, planted, 1, 1, b'x')?;
     Ok(())
 }
 
-fn served_on_a_block<W: Write>(out: &mut W, ten: Store) -> io::Result<()> {
-    let planted = byte(out, ten, 433)?;
-    grow(out, planted, 438, 10, 1, 14, 1)?;
-    let planted = byte(out, ten, 448)?;
-    grow_zeroed(out, planted, 438, 10, 1, 14, 1)?;
-    let planted = byte(out, ten, 442)?;
-    shrink(out, planted, 438, 10, 1, 5, 1)?;
-    let planted = byte(out, ten, 448)?;
-    resize(out, planted, 438, 10, 1, 5)?;
-    let planted = byte(out, ten, 437)?;
-    lend(out, planted, 438, 10, 1, b'x')?;
-    let planted = byte(out, ten, 448)?;
-    lend(out, planted, 438, 10, 1, b'x')?;
-    let planted = before_the_write(out, ten)?;
-    lend(out, planted, 438, 10, 1, b'x')?;
+// Bytes inside and outside of what a call may write.
+fn changed_outside<W: Write>(out: &mut W, s: &Store) -> io::Result<()> {
+    let parts = [
+        (0, 432, 448),
+        (431, 432, 448),
+        (432, 432, 448),
+        (447, 432, 448),
+        (448, 432, 448),
+        (16383, 432, 448),
+        (432, 432, 432),
+    ];
+    for (at, from, to) in parts {
+        write!(out, "planted: byte {at} beside {from} to {to}")?;
+        show_same(out, s.is_same_outside(&s.put(Plant::Byte(at)), from, to))?;
+    }
     Ok(())
 }
 
-fn refused<W: Write>(out: &mut W, s: Store) -> io::Result<()> {
-    let planted = byte(out, s, 0)?;
-    allocate(out, planted, 1, 3)?;
-    let planted = a_number(out, s)?;
-    allocate(out, planted, 1, 3)?;
-    let planted = byte(out, s, 16383)?;
-    copy_in(out, planted, b"abcdefghij", 3)?;
-    let planted = a_number(out, s)?;
-    free(out, planted, 448, 1, 1)?;
-    let planted = byte(out, s, 16383)?;
-    lend(out, planted, 448, 1, 1, b'x')?;
+// A change is planted after each call.
+fn planted<W: Write>(out: &mut W, s: &Store, cases: &[(Planted, Call)]) -> io::Result<()> {
+    for (planted, call) in cases {
+        write!(out, "planted: {planted} ")?;
+        s.with_planted(*planted).ask(out, *call)?;
+    }
     Ok(())
 }
 
-pub fn run<W: Write>(out: &mut W, s: Store) -> io::Result<()> {
-    changed_numbers(out, s)?;
-    changed_byte(out, s, 0)?;
-    changed_byte(out, s, 8191)?;
-    changed_byte(out, s, 16383)?;
-    changed_outside(out, s, 0, 432, 448)?;
-    changed_outside(out, s, 431, 432, 448)?;
-    changed_outside(out, s, 432, 432, 448)?;
-    changed_outside(out, s, 447, 432, 448)?;
-    changed_outside(out, s, 448, 432, 448)?;
-    changed_outside(out, s, 16383, 432, 448)?;
-    changed_outside(out, s, 432, 432, 432)?;
-    served(out, s)?;
-    let copied = copy_in(out, s, b"abcdefghij", 1)?;
-    served_on_a_block(out, copied)?;
-    refused(out, s)
+fn served<W: Write>(out: &mut W, s: &Store) -> io::Result<()> {
+    planted(
+        out,
+        s,
+        &[
+            (Byte(0), Allocate(1, 1)),
+            (Byte(0), AllocateWithToken(1, 1)),
+            (Byte(437), CopyIn("abcdefghij", 1)),
+            (Byte(448), CopyIn("abcdefghij", 1)),
+            (Byte(446), Fill(1, 1)),
+            (Byte(448), Fill(1, 1)),
+        ],
+    )
+}
+
+fn served_on_a_block<W: Write>(out: &mut W, ten: &Store) -> io::Result<()> {
+    planted(
+        out,
+        ten,
+        &[
+            (Byte(433), Grow(438, 10, 1, 14, 1)),
+            (Byte(448), GrowZeroed(438, 10, 1, 14, 1)),
+            (Byte(442), Shrink(438, 10, 1, 5, 1)),
+            (Byte(448), Resize(438, 10, 1, 5)),
+            (Byte(437), Lend(438, 10, 1)),
+            (Byte(448), Lend(438, 10, 1)),
+            (BeforeTheWrite, Lend(438, 10, 1)),
+        ],
+    )
+}
+
+fn refused<W: Write>(out: &mut W, s: &Store) -> io::Result<()> {
+    planted(
+        out,
+        s,
+        &[
+            (Byte(0), Allocate(1, 3)),
+            (Number(0), Allocate(1, 3)),
+            (Byte(16383), CopyIn("abcdefghij", 3)),
+            (Number(0), Free(448, 1, 1)),
+            (Byte(16383), Lend(448, 1, 1)),
+        ],
+    )
+}
+
+pub fn run<W: Write>(out: &mut W) -> io::Result<()> {
+    let s = begin(out, &[Create(16384, 1, 448)])?;
+    changed_numbers(out, &s)?;
+    changed_bytes(out, &s)?;
+    changed_outside(out, &s)?;
+    served(out, &s)?;
+    let ten = s.in_turn(out, &[CopyIn("abcdefghij", 1)])?;
+    served_on_a_block(out, &ten)?;
+    refused(out, &s)
 }

@@ -1,374 +1,165 @@
-// Each call of document 01 as a step: it prints what is asked, what was answered and what the arena is then, and gives the store after it.
-use crate::say::{show_answer, show_given, show_record, was_done, was_given};
-use crate::store::{
-    BEFORE_THE_WRITE, NOTHING, Store, plant, planted_record, put_bytes, same_outside, show_after,
-    show_others,
-};
-use arena::{Arena, Outcome};
-use calls::{Allocation, Given, Token};
+// How a call is run: it prints what is asked, what was answered and what the arena is then, and gives the store after it.
+use crate::call::{Answered, Call};
+use crate::store::{Planted, Store};
+use arena::{Arena, Refusal};
 use std::io;
 use std::io::Write;
-use trial::say::{number, text};
+use trial::number::{number_of, refusal_of};
+use trial::row::{Plant, current_pointer};
 
-// The region's bytes are full stops at first.
-pub fn create<W: Write>(
-    out: &mut W,
-    region: usize,
-    minimum: usize,
-    capacity: usize,
-) -> io::Result<Store> {
-    number(out, b"create ", region)?;
-    number(out, b" minimum ", minimum)?;
-    number(out, b" capacity ", capacity)?;
-    let got = Arena::with_min_align_and_capacity(region, minimum, capacity);
-    let answer = got.answer;
-    let a = got.arena;
-    show_answer(out, answer)?;
-    show_record(out, a)?;
-    Ok(Store {
-        arena: a,
-        lent: region,
-        plant: NOTHING,
-        bytes: [46; 16384],
-    })
+fn show_answer<W: Write>(out: &mut W, answer: Result<Option<usize>, Refusal>) -> io::Result<()> {
+    match answer {
+        Ok(Some(offset)) => write!(out, ": at {offset}"),
+        Ok(None) => write!(out, ": done"),
+        Err(r) => write!(out, ": refused {}", number_of(r)),
+    }
 }
 
-// A served call may write as many bytes from its block's offset on.
-fn show_written<W: Write>(
+// The whole record: its numbers, and the held chunks in the order taken. No limit has the number 0.
+fn show_record<W: Write>(out: &mut W, a: &Arena) -> io::Result<()> {
+    let h = a.head;
+    write!(out, "; region {}, minimum {}", h.region, h.minimum)?;
+    match (h.limited, h.limit) {
+        (1, limit) => write!(out, ", limit {limit}")?,
+        (_, 0) => write!(out, ", no limit")?,
+        (_, limit) => write!(out, ", no limit BUT {limit}")?,
+    }
+    if h.count == 0 {
+        write!(out, ", no chunk")?;
+    }
+    let chunks = a.starts.iter().zip(&a.sizes).zip(&a.pointers);
+    for ((start, size), pointer) in chunks.take(h.count) {
+        write!(out, ", {size} at {start} pointer {pointer}")?;
+    }
+    out.write_all(b"\n")
+}
+
+// A zero byte, which no text of this program has, is shown as 0.
+fn show_bytes<W: Write>(out: &mut W, s: &Store, from: usize, to: usize) -> io::Result<()> {
+    out.write_all(b": ")?;
+    for b in s.bytes.iter().take(to).skip(from) {
+        let shown = if *b == 0 { b'0' } else { *b };
+        out.write_all(&[shown])?;
+    }
+    out.write_all(b"\n")
+}
+
+// The end of a line: how many chunks are held, and the current one's pointer. A refused call must leave everything as it was.
+fn show_after<W: Write>(
     out: &mut W,
-    answer: Given,
-    before: [u8; 16384],
-    after: [u8; 16384],
-    size: usize,
+    is_served: bool,
+    before: &Store,
+    after: &Store,
 ) -> io::Result<()> {
-    if let Given::At(offset) = answer {
-        let end = std::num::wrapping_add_usize(offset, size);
-        show_others(out, same_outside(&before, &after, offset, end))?;
+    if is_served {
+        write!(out, "; chunks {}", after.arena.head.count)?;
+        if let Some(pointer) = current_pointer(&after.arena) {
+            write!(out, ", pointer {pointer}")?;
+        }
+        return out.write_all(b"\n");
     }
-    Ok(())
-}
-
-fn given<W: Write>(
-    out: &mut W,
-    s: Store,
-    got: Allocation,
-    bytes: [u8; 16384],
-    size: usize,
-) -> io::Result<Store> {
-    let answer = got.answer;
-    let a = planted_record(s, got.arena);
-    let after = Store {
-        arena: a,
-        lent: s.lent,
-        plant: s.plant,
-        bytes: bytes,
-    };
-    show_given(out, answer)?;
-    let before = s.bytes;
-    show_written(out, answer, before, bytes, size)?;
-    show_after(out, was_given(answer), s, after)?;
-    Ok(after)
-}
-
-fn done<W: Write>(out: &mut W, s: Store, got: Outcome) -> io::Result<Store> {
-    let answer = got.answer;
-    let a = planted_record(s, got.arena);
-    let b = s.bytes;
-    let after = Store {
-        arena: a,
-        lent: s.lent,
-        plant: s.plant,
-        bytes: b,
-    };
-    show_answer(out, answer)?;
-    show_after(out, was_done(answer), s, after)?;
-    Ok(after)
-}
-
-pub fn allocate<W: Write>(out: &mut W, s: Store, size: usize, align: usize) -> io::Result<Store> {
-    number(out, b"allocate ", size)?;
-    number(out, b" align ", align)?;
-    let a = s.arena;
-    let mut b = [46u8; 16384];
-    let n = put_bytes(&mut b, &s.bytes, s.lent);
-    let got = calls::allocate::allocate(a, &b[..n], size, align);
-    plant(&mut b, s.plant);
-    given(out, s, got, b, 0)
-}
-
-pub fn copy_in<W: Write>(out: &mut W, s: Store, source: &[u8], align: usize) -> io::Result<Store> {
-    text(out, b"copy in ")?;
-    text(out, source)?;
-    number(out, b" align ", align)?;
-    let a = s.arena;
-    let mut b = [46u8; 16384];
-    let n = put_bytes(&mut b, &s.bytes, s.lent);
-    let got = calls::write::copy_in(a, &mut b[..n], source, align);
-    plant(&mut b, s.plant);
-    given(out, s, got, b, source.len())
-}
-
-pub fn fill_in<W: Write>(
-    out: &mut W,
-    s: Store,
-    size: usize,
-    align: usize,
-    value: u8,
-) -> io::Result<Store> {
-    number(out, b"fill ", size)?;
-    number(out, b" align ", align)?;
-    let a = s.arena;
-    let mut b = [46u8; 16384];
-    let n = put_bytes(&mut b, &s.bytes, s.lent);
-    let got = calls::write::fill_in(a, &mut b[..n], size, align, value);
-    plant(&mut b, s.plant);
-    given(out, s, got, b, size)
-}
-
-fn show_change<W: Write>(
-    out: &mut W,
-    offset: usize,
-    old: usize,
-    old_align: usize,
-    new: usize,
-    new_align: usize,
-) -> io::Result<()> {
-    number(out, b" ", offset)?;
-    number(out, b" size ", old)?;
-    number(out, b" align ", old_align)?;
-    number(out, b" to size ", new)?;
-    number(out, b" align ", new_align)
-}
-
-pub fn grow<W: Write>(
-    out: &mut W,
-    s: Store,
-    offset: usize,
-    old: usize,
-    old_align: usize,
-    new: usize,
-    new_align: usize,
-) -> io::Result<Store> {
-    text(out, b"grow")?;
-    show_change(out, offset, old, old_align, new, new_align)?;
-    let a = s.arena;
-    let mut b = [46u8; 16384];
-    let n = put_bytes(&mut b, &s.bytes, s.lent);
-    let got = reshape::grow::grow(a, &mut b[..n], offset, old, old_align, new, new_align);
-    plant(&mut b, s.plant);
-    given(out, s, got, b, new)
-}
-
-pub fn grow_zeroed<W: Write>(
-    out: &mut W,
-    s: Store,
-    offset: usize,
-    old: usize,
-    old_align: usize,
-    new: usize,
-    new_align: usize,
-) -> io::Result<Store> {
-    text(out, b"grow zeroed")?;
-    show_change(out, offset, old, old_align, new, new_align)?;
-    let a = s.arena;
-    let mut b = [46u8; 16384];
-    let n = put_bytes(&mut b, &s.bytes, s.lent);
-    let got = reshape::grow::grow_zeroed(a, &mut b[..n], offset, old, old_align, new, new_align);
-    plant(&mut b, s.plant);
-    given(out, s, got, b, new)
-}
-
-pub fn shrink<W: Write>(
-    out: &mut W,
-    s: Store,
-    offset: usize,
-    old: usize,
-    old_align: usize,
-    new: usize,
-    new_align: usize,
-) -> io::Result<Store> {
-    text(out, b"shrink")?;
-    show_change(out, offset, old, old_align, new, new_align)?;
-    let a = s.arena;
-    let mut b = [46u8; 16384];
-    let n = put_bytes(&mut b, &s.bytes, s.lent);
-    let got = reshape::shrink::shrink(a, &mut b[..n], offset, old, old_align, new, new_align);
-    plant(&mut b, s.plant);
-    given(out, s, got, b, new)
-}
-
-pub fn resize<W: Write>(
-    out: &mut W,
-    s: Store,
-    offset: usize,
-    old: usize,
-    align: usize,
-    new: usize,
-) -> io::Result<Store> {
-    number(out, b"resize ", offset)?;
-    number(out, b" size ", old)?;
-    number(out, b" align ", align)?;
-    number(out, b" to size ", new)?;
-    let a = s.arena;
-    let mut b = [46u8; 16384];
-    let n = put_bytes(&mut b, &s.bytes, s.lent);
-    let got = reshape::resize::resize(a, &mut b[..n], offset, old, align, new);
-    plant(&mut b, s.plant);
-    given(out, s, got, b, new)
-}
-
-pub fn free<W: Write>(
-    out: &mut W,
-    s: Store,
-    offset: usize,
-    size: usize,
-    align: usize,
-) -> io::Result<Store> {
-    number(out, b"free ", offset)?;
-    number(out, b" size ", size)?;
-    number(out, b" align ", align)?;
-    let a = s.arena;
-    done(out, s, calls::free::free(a, offset, size, align))
-}
-
-fn set_each(part: &mut [u8], value: u8) {
-    for i in 0..part.len() {
-        part[i] = value;
+    if before.is_same(after) {
+        writeln!(out, ", unchanged")
+    } else {
+        writeln!(out, ", CHANGED")
     }
 }
 
-// Whether a lend leaves every byte as it is.
-fn lends_only(s: Store, offset: usize, size: usize, align: usize) -> bool {
-    let a = s.arena;
-    let mut b = [46u8; 16384];
-    let n = put_bytes(&mut b, &s.bytes, s.lent);
-    calls::lend::lend(a, &mut b[..n], offset, size, align);
-    if s.plant == BEFORE_THE_WRITE {
-        plant(&mut b, offset);
+impl Store {
+    // Whether a lend leaves every byte as it is.
+    fn is_only_lent(&self, offset: usize, size: usize, align: usize) -> bool {
+        let mut after = *self;
+        let _ = calls::lend::lend(self.arena, after.region(), offset, size, align);
+        if let Some(Planted::BeforeTheWrite) = self.planted {
+            after = after.put(Plant::Byte(offset));
+        }
+        after.bytes == self.bytes
     }
-    let before = s.bytes;
-    same_outside(&before, &b, 0, 0)
-}
 
-fn show_lent<W: Write>(
-    out: &mut W,
-    s: Store,
-    after: [u8; 16384],
-    offset: usize,
-    size: usize,
-    align: usize,
-) -> io::Result<()> {
-    if !lends_only(s, offset, size, align) {
-        return show_others(out, false);
+    // Of a served call that is lent bytes: whether those that it may not write are as they were.
+    fn are_others_same(&self, call: Call, after: &Store, from: usize, size: usize) -> bool {
+        if let Call::Lend(offset, size, align) = call {
+            if !self.is_only_lent(offset, size, align) {
+                return false;
+            }
+        }
+        self.is_same_outside(after, from, from.wrapping_add(size))
     }
-    let before = s.bytes;
-    let end = std::num::wrapping_add_usize(offset, size);
-    show_others(out, same_outside(&before, &after, offset, end))
-}
 
-// What is lent is written on.
-pub fn lend<W: Write>(
-    out: &mut W,
-    s: Store,
-    offset: usize,
-    size: usize,
-    align: usize,
-    value: u8,
-) -> io::Result<Store> {
-    number(out, b"lend ", offset)?;
-    number(out, b" size ", size)?;
-    number(out, b" align ", align)?;
-    let a = s.arena;
-    let mut b = [46u8; 16384];
-    let n = put_bytes(&mut b, &s.bytes, s.lent);
-    let answer = calls::lend::lend_answer(a, &b[..n], offset, size, align);
-    let part = calls::lend::lend(a, &mut b[..n], offset, size, align);
-    let count = part.len();
-    set_each(part, value);
-    plant(&mut b, s.plant);
-    let after = Store {
-        arena: a,
-        lent: s.lent,
-        plant: s.plant,
-        bytes: b,
-    };
-    show_answer(out, answer)?;
-    number(out, b", bytes lent ", count)?;
-    if was_done(answer) {
-        show_lent(out, s, b, offset, size, align)?;
+    fn show_answered<W: Write>(
+        &self,
+        out: &mut W,
+        call: Call,
+        answered: Answered,
+        after: &Store,
+    ) -> io::Result<()> {
+        if let Some(token) = answered.token {
+            write!(out, " gives token {} {}", token.count, token.pointer)?;
+        }
+        show_answer(out, answered.answer)?;
+        if let Some(count) = answered.lent {
+            write!(out, ", bytes lent {count}")?;
+        }
+        if let Some((from, size)) = answered.written {
+            if self.are_others_same(call, after, from, size) {
+                write!(out, ", other bytes unchanged")?;
+            } else {
+                write!(out, ", OTHER BYTES CHANGED")?;
+            }
+        }
+        show_after(out, answered.answer.is_ok(), self, after)
     }
-    show_after(out, was_done(answer), s, after)?;
-    Ok(after)
+
+    pub fn ask<W: Write>(&self, out: &mut W, call: Call) -> io::Result<Store> {
+        write!(out, "{call}")?;
+        let mut after = *self;
+        if let Some(answered) = call.run(&mut after) {
+            let after = after.after_call();
+            self.show_answered(out, call, answered, &after)?;
+            return Ok(after);
+        }
+        match call {
+            Call::Create(n, minimum, capacity) => {
+                let got = Arena::with_min_align_and_capacity(n, minimum, capacity);
+                after = Store::blank();
+                after.arena = got.arena;
+                after.lent = n;
+                show_answer(out, refusal_of(got.answer).map_or(Ok(None), Err))?;
+                show_record(out, &after.arena)?;
+            }
+            Call::Bytes(from, to) => show_bytes(out, self, from, to)?,
+            _ => show_record(out, &self.arena)?,
+        }
+        Ok(after)
+    }
+
+    // Each of these on this store.
+    pub fn each<W: Write>(&self, out: &mut W, calls: &[Call]) -> io::Result<()> {
+        for call in calls {
+            self.ask(out, *call)?;
+        }
+        Ok(())
+    }
+
+    // Each of these on the store after the one before.
+    pub fn in_turn<W: Write>(&self, out: &mut W, calls: &[Call]) -> io::Result<Store> {
+        let mut store = *self;
+        for call in calls {
+            store = store.ask(out, *call)?;
+        }
+        Ok(store)
+    }
+
+    // The same of each list, from this store on.
+    pub fn each_in_turn<W: Write>(&self, out: &mut W, lists: &[&[Call]]) -> io::Result<()> {
+        for calls in lists {
+            self.in_turn(out, calls)?;
+        }
+        Ok(())
+    }
 }
 
-pub fn allocate_with_token<W: Write>(
-    out: &mut W,
-    s: Store,
-    size: usize,
-    align: usize,
-) -> io::Result<Store> {
-    number(out, b"token allocate ", size)?;
-    number(out, b" align ", align)?;
-    let a = s.arena;
-    let mut b = [46u8; 16384];
-    let n = put_bytes(&mut b, &s.bytes, s.lent);
-    let got = takeback::tokens::allocate_with_token(a, &b[..n], size, align);
-    plant(&mut b, s.plant);
-    let token = got.token;
-    number(out, b" gives token ", token.count)?;
-    number(out, b" ", token.pointer)?;
-    let answer = got.answer;
-    let held = got.arena;
-    given(
-        out,
-        s,
-        Allocation {
-            answer: answer,
-            arena: held,
-        },
-        b,
-        0,
-    )
-}
-
-pub fn cancel<W: Write>(
-    out: &mut W,
-    s: Store,
-    offset: usize,
-    count: usize,
-    pointer: usize,
-) -> io::Result<Store> {
-    number(out, b"cancel ", offset)?;
-    number(out, b" token ", count)?;
-    number(out, b" ", pointer)?;
-    let a = s.arena;
-    let token = Token {
-        count: count,
-        pointer: pointer,
-    };
-    done(out, s, takeback::tokens::cancel(a, offset, token))
-}
-
-pub fn reset<W: Write>(out: &mut W, s: Store) -> io::Result<Store> {
-    text(out, b"reset")?;
-    let a = s.arena;
-    done(out, s, a.reset())
-}
-
-pub fn limit<W: Write>(out: &mut W, s: Store, limit: usize) -> io::Result<Store> {
-    number(out, b"limit ", limit)?;
-    let a = s.arena;
-    done(out, s, a.set_allocation_limit(limit))
-}
-
-pub fn no_limit<W: Write>(out: &mut W, s: Store) -> io::Result<Store> {
-    text(out, b"no limit")?;
-    let a = s.arena;
-    done(out, s, a.no_allocation_limit())
-}
-
-pub fn record<W: Write>(out: &mut W, s: Store) -> io::Result<()> {
-    text(out, b"record")?;
-    let a = s.arena;
-    show_record(out, a)
+// Begins with a creation.
+pub fn begin<W: Write>(out: &mut W, calls: &[Call]) -> io::Result<Store> {
+    Store::blank().in_turn(out, calls)
 }

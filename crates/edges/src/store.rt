@@ -1,175 +1,109 @@
-// An arena's record with the bytes that are lent to it, and what is asked of both.
-ghost use Rattle.std.specs.Prelude.{◌≡◌, ◌≤◌, length, take};
+// An arena's record with the bytes that are lent to it, and how both are compared.
+use arena::creation::emptied;
+use arena::{Arena, Head};
+use std::fmt;
+use trial::row::{Plant, are_same};
 
-use crate::say::{show_byte, show_current};
-use arena::Arena;
-use std::io;
-use std::io::Write;
-use trial::row::{are_same, number_at, with_number};
-use trial::say::{number, text};
+pub const BYTES: usize = 16384;
 
-// A store's plant is the byte that is changed after a call and before its comparison, or one of these.
-pub const NOTHING: usize = 16384;
+// A change that a call's comparison has to see.
+#[derive(Clone, Copy)]
+pub enum Planted {
+    // After the call.
+    Byte(usize),
+    Number(usize),
+    // After a lend, in the block's first byte, and before its owner writes there.
+    BeforeTheWrite,
+}
 
-pub const A_NUMBER: usize = 16385;
-
-pub const BEFORE_THE_WRITE: usize = 16386;
+impl fmt::Display for Planted {
+    fn fmt<W: fmt::Write>(&self, f: &mut fmt::Formatter<W>) -> fmt::Result {
+        match self {
+            Planted::Byte(at) => write!(f, "byte {at} after"),
+            Planted::Number(_) => write!(f, "a number of the record after"),
+            Planted::BeforeTheWrite => write!(f, "the block's first byte before the write of"),
+        }
+    }
+}
 
 // The first lent bytes are the region.
 #[derive(Clone, Copy)]
 pub struct Store {
     pub arena: Arena,
     pub lent: usize,
-    pub plant: usize,
-    pub bytes: [u8; 16384],
+    pub bytes: [u8; BYTES],
+    pub planted: Option<Planted>,
 }
 
-fn byte_at(from: &[u8; 16384], i: usize) -> u8 {
-    if i < 16384 { from[i] } else { 46 }
-}
-
-fn put_each<'a>(to: &'a mut [u8], from: &'a [u8; 16384])
-    ensures { length to.new ≡ length to.old }
-{
-    for i in 0..to.len() {
-        to[i] = byte_at(from, i);
-    }
-}
-
-// Puts a store's bytes into those that a call will be lent, and answers how many of them are lent: n, or all.
-pub fn put_bytes(to: &mut [u8], from: &[u8; 16384], n: usize) -> usize
-    ensures { (result ≤ length to.new) × (result ≡ length (take result to.new)) }
-{
-    put_each(to, from);
-    if to.len() < n { to.len() } else { n }
-}
-
-// The same record, lent another length.
-pub fn lent(s: Store, n: usize) -> Store {
-    let a = s.arena;
-    let b = s.bytes;
-    Store {
-        arena: a,
-        lent: n,
-        plant: s.plant,
-        bytes: b,
-    }
-}
-
-// An unsound record: a chunk more than the table has places for.
-pub fn overcounted(s: Store) -> Store {
-    let mut a = s.arena;
-    let b = s.bytes;
-    a.head.count = 33;
-    Store {
-        arena: a,
-        lent: s.lent,
-        plant: s.plant,
-        bytes: b,
-    }
-}
-
-// An unsound record: an unused place that isn't zero.
-pub fn littered(s: Store) -> Store {
-    let mut a = s.arena;
-    let b = s.bytes;
-    a.pointers[31] = 16;
-    Store {
-        arena: a,
-        lent: s.lent,
-        plant: s.plant,
-        bytes: b,
-    }
-}
-
-// Changes a byte, if it is there.
-pub fn plant(to: &mut [u8; 16384], at: usize) {
-    if at < 16384 {
-        to[at] = to[at] ^ 1;
-    }
-}
-
-// One number more than it was.
-pub fn with_next(a: Arena, k: usize) -> Arena {
-    with_number(a, k, std::num::wrapping_add_usize(number_at(a, k), 1))
-}
-
-// The record that came back, with what is planted.
-pub fn planted_record(s: Store, a: Arena) -> Arena {
-    if s.plant == A_NUMBER {
-        with_next(a, 0)
-    } else {
-        a
-    }
-}
-
-fn is_between(i: usize, from: usize, to: usize) -> bool {
-    if i < from {
-        return false;
-    }
-    i < to
-}
-
-// Every byte is the same, but for those from an offset to another, which the call may write.
-pub fn same_outside<'a>(x: &'a [u8; 16384], y: &'a [u8; 16384], from: usize, to: usize) -> bool {
-    let mut same = true;
-    for i in 0..16384 {
-        if x[i] != y[i] {
-            if !is_between(i, from, to) {
-                same = false;
-            }
+impl Store {
+    // A record without a region, and full stops.
+    pub fn blank() -> Store {
+        Store {
+            arena: emptied(Head {
+                region: 0,
+                minimum: 1,
+                limited: 0,
+                limit: 0,
+                count: 0,
+            }),
+            lent: 0,
+            bytes: [b'.'; BYTES],
+            planted: None,
         }
     }
-    same
-}
 
-// The record handed back is the one handed in, number by number, and so is each byte.
-pub fn same_store(x: Store, y: Store) -> bool {
-    let a = x.arena;
-    let b = y.arena;
-    if !are_same(a, b) {
-        return false;
+    // The bytes that a call is lent: all for a longer region.
+    pub fn region(&mut self) -> &mut [u8] {
+        let n = self.lent.min(BYTES);
+        &mut self.bytes[..n]
     }
-    let p = x.bytes;
-    let q = y.bytes;
-    same_outside(&p, &q, 0, 0)
-}
 
-// The end of a line. A refused call must leave everything as it was.
-pub fn show_after<W: Write>(
-    out: &mut W,
-    served: bool,
-    before: Store,
-    after: Store,
-) -> io::Result<()> {
-    if served {
-        let a = after.arena;
-        return show_current(out, a);
+    // The same record, lent another length.
+    pub fn with_lent(mut self, n: usize) -> Store {
+        self.lent = n;
+        self
     }
-    if same_store(before, after) {
-        text(out, b", unchanged\n")
-    } else {
-        text(out, b", CHANGED\n")
-    }
-}
 
-// Of a served call: whether the bytes that it may not write are as they were.
-pub fn show_others<W: Write>(out: &mut W, same: bool) -> io::Result<()> {
-    if same {
-        text(out, b", other bytes unchanged")
-    } else {
-        text(out, b", OTHER BYTES CHANGED")
+    // An unsound record: a chunk more than the table has places for.
+    pub fn overcounted(mut self) -> Store {
+        self.arena.head.count = 33;
+        self
     }
-}
 
-pub fn show_bytes<W: Write>(out: &mut W, s: Store, from: usize, to: usize) -> io::Result<()> {
-    number(out, b"bytes ", from)?;
-    number(out, b" to ", to)?;
-    text(out, b": ")?;
-    for i in from..to {
-        if i < 16384 {
-            show_byte(out, s.bytes[i])?;
+    // An unsound record: an unused place that isn't zero.
+    pub fn littered(mut self) -> Store {
+        self.arena.pointers[31] = 16;
+        self
+    }
+
+    pub fn with_planted(mut self, planted: Planted) -> Store {
+        self.planted = Some(planted);
+        self
+    }
+
+    pub fn put(mut self, plant: Plant) -> Store {
+        plant.put(&mut self.arena, &mut self.bytes);
+        self
+    }
+
+    // With what is planted after a call.
+    pub fn after_call(self) -> Store {
+        match self.planted {
+            Some(Planted::Byte(at)) => self.put(Plant::Byte(at)),
+            Some(Planted::Number(k)) => self.put(Plant::Number(k)),
+            _ => self,
         }
     }
-    text(out, b"\n")
+
+    // Every byte is the same, but for those from an offset to another, which the call may write.
+    pub fn is_same_outside(&self, other: &Store, from: usize, to: usize) -> bool {
+        let from = from.min(BYTES);
+        let to = to.clamp(from, BYTES);
+        self.bytes[..from] == other.bytes[..from] && self.bytes[to..] == other.bytes[to..]
+    }
+
+    // The record handed back is the one handed in, number by number, and so is each byte.
+    pub fn is_same(&self, other: &Store) -> bool {
+        are_same(&self.arena, &other.arena) && self.bytes == other.bytes
+    }
 }

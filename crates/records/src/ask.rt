@@ -3,6 +3,7 @@ use arena::{Arena, Outcome};
 use calls::Token;
 use std::fmt;
 use trial::number::number_or_0;
+use trial::row::current_pointer;
 
 #[derive(Clone, Copy)]
 pub enum Call {
@@ -127,14 +128,8 @@ fn walk(a: Arena, region: &[u8]) -> Asked {
     }
 }
 
-// 0 with no chunk, and with more than the table has places for.
-fn current_pointer(a: &Arena) -> usize {
-    let last = a.head.count.checked_sub(1);
-    last.and_then(|i| a.pointers.get(i)).copied().unwrap_or(0)
-}
-
 pub fn ask(call: Call, a: Arena, region: &mut [u8]) -> Asked {
-    let p = current_pointer(&a);
+    let p = current_pointer(&a).unwrap_or(0);
     match call {
         Call::Allocate => given(calls::allocate::allocate(a, region, 1, 1)),
         Call::AllocateWithToken => with_token(a, region),

@@ -1,6 +1,6 @@
 // The record as a row of 101 numbers: region, minimum, limited, limit and count, and then the columns of starts, sizes and pointers. And changes that are planted in
 // a record or in bytes after a call, to see that each is seen.
-ghost use Rattle.std.specs.Prelude.{◌≡◌, ◌≤◌, ◌↔◌, ℕ, IsTrue};
+ghost use Rattle.std.specs.Prelude.{◌≡◌, ◌≤◌, ◌↔◌, ◌-◌, ℕ, IfSome, IsTrue, None, slice_index};
 ghost use Rattle.trial.specs.declared.row.Plant.TheVariants.{Number, Byte};
 
 use arena::{Arena, Chunk};
@@ -44,6 +44,15 @@ pub fn are_same(a: &Arena, b: &Arena) -> bool
         && a.starts == b.starts
         && a.sizes == b.sizes
         && a.pointers == b.pointers
+}
+
+// The pointer of the chunk that was taken last. None with no chunk, and with more than the table has places for.
+pub fn current_pointer(a: &Arena) -> Option<usize>
+    ensures none { a.now.head.count ≡ 0 → result ≡ None }
+    ensures last { IfSome result (λ p. p ≡ slice_index a.now.pointers (a.now.head.count - 1)) }
+{
+    let last = a.head.count.checked_sub(1)?;
+    a.pointers.get(last).copied()
 }
 
 #[derive(Clone, Copy)]
