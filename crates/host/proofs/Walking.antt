@@ -12,12 +12,15 @@ use borrow.Author.Tests.{lt-ltb, ltb-true, ltb-false, ne_eqb}
 use Rattle.arena.specs.declared.Arena.{Arena}
 use Rattle.arena.specs.declared.Chunk.{Chunk}
 use Rattle.arena.specs.declared.Refusal.{Refusal}
+use Rattle.arena.specs.declared.lent.Lent as Rec
+use Rattle.arena.specs.Inner.{lent_of}
 use Rattle.arena.specs.Numbers.{places}
 use Rattle.arena.specs.Record.{end_of, chunk_at, chunks_of, held_of}
 use Rattle.arena.specs.Refusals.{number_of, Answer}
+use Rattle.arena.specs.Sound.{sound_of}
 use Rattle.arena.proofs.View.{length-chunks, chunks-newest, chunks-at}
 use Rattle.arena.proofs.Soundness.{ChunkSound, sound-open}
-use Rattle.calls.proofs.Testing.{Lent, lent-passes, tests-pass}
+use Rattle.calls.proofs.Testing.{Lent, lent-passes, lent-done, tests-pass}
 use Rattle.host.specs.declared.SaidStep.{SaidStep}
 use Rattle.host.specs.Walk.{walk_answer, chunk_part, parts_of, walk_parts, step, said_step, step_of, step_part, next_index, handed_out}
 use Rattle.std.specs.Prelude.{Err, Ok}
@@ -50,6 +53,12 @@ module _ (starts sizes pointers : List ℕ) where
 pub walked : (a : Arena) (lent : ℕ) → (Ok tt) ≡ walk_answer a lent → Lent a lent
 unfolding walk_answer
 walked a lent e = lent-passes a lent (tests-pass _ e)
+
+-- and the other way round, of a lent record k that is known to be sound
+pub passed : {k l : Rec.Lent} (a : Arena) (lent : ℕ) → k ≡ l → lent_of l ≡ a → sound_of (lent_of k) ≡ true → lent ≡ l.head.region → (Ok tt) ≡ walk_answer a lent
+unfolding walk_answer
+passed a lent same own sound whole =
+    sym (lent-done a lent (sym (ap sound_of (ap lent_of same ∙ own)) ∙ sound) (whole ∙ ap (λ (r : Arena). r.head.region) own))
 
 module _ (a : Arena) (lent : ℕ) (e : (Ok tt) ≡ walk_answer a lent) where
   abbrev count : ℕ

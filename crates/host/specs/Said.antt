@@ -1,14 +1,11 @@
 -- What a call answers a host in plain numbers: document 01's number of the refusal, or 0, and the block's offset.
-use Rattle.std.specs.Prelude.{ℕ, Err, Ok, ⊤}
-use Rattle.arena.specs.declared.Outcome.{Outcome}
-use Rattle.arena.specs.Refusals.{number_of, Allocation, Answer, Given}
+use Rattle.std.specs.Prelude.{ℕ, Err, Ok}
+use Rattle.arena.specs.Refusals.{number_of, Answer, Given}
 use Rattle.calls.specs.declared.Token.{Token}
 use Rattle.calls.specs.declared.TokenAllocation.{TokenAllocation}
 use Rattle.host.specs.declared.Said.{Said}
 use Rattle.host.specs.declared.SaidPart.{SaidPart}
 use Rattle.host.specs.declared.SaidToken.{SaidToken}
-use Rattle.host.specs.declared.Stored.{Stored}
-use Rattle.host.specs.declared.StoredToken.{StoredToken}
 
 abbrev pub said : ℕ → ℕ → Said
 said refusal offset = record { refusal = refusal; offset = offset }
@@ -43,13 +40,3 @@ said_at refusal offset length = record { refusal = refusal; offset = offset; len
 unfoldable pub said_part : Answer → ℕ → ℕ → SaidPart
 said_part (Ok u) offset size = said_at 0 offset size
 said_part (Err r) offset size = said_at (number_of r) 0 0
-
--- the answer, with the record that is stored
-unfoldable pub stored_of : Outcome ⊤ → Stored
-stored_of o = record { said = said_of o.answer; arena = o.arena }
-
-unfoldable pub stored_given : Allocation → Stored
-stored_given got = record { said = said_given got.answer; arena = got.arena }
-
-unfoldable pub stored_token : TokenAllocation → StoredToken
-stored_token got = record { said = said_token got; arena = got.arena }
