@@ -77,6 +77,7 @@ fn always(change: Change) -> Ran
     }
 }
 
+#[tactic(auto, unfolding(crate::specs::Run::run_in, crate::specs::Inner::request_said, crate::specs::Inner::ran_said, crate::specs::Run::answer_reply, arena::specs::Inner::changed_by, arena::specs::Creation::reset_of, arena::specs::Creation::set_limit_of, arena::specs::Creation::no_limit_of, arena::specs::Refusals::answered, arena::specs::Refusals::refused_by))]
 pub fn run<'a>(
     h: Head,
     starts: &'a [usize; 32],
