@@ -2,8 +2,8 @@
 ghost use Rattle.std.specs.Prelude.{◌≡◌, true, length};
 ghost use Rattle.arena.specs.Record.{record_of};
 ghost use Rattle.arena.specs.Sound.{sound_of};
-ghost use Rattle.requests.specs.Run.{done, run_in};
-ghost use Rattle.requests.specs.Inner.{reply_said, request_said, ran_said, GivesPlaced, GivesTokenPlaced, GivesEnded};
+ghost use Rattle.requests.specs.Run.{done, given_reply, answer_reply, run_in};
+ghost use Rattle.requests.specs.Inner.{reply_said, request_said, ran_said};
 
 use crate::{Reply, Request};
 use arena::change::Change;
@@ -24,7 +24,7 @@ pub struct Ran {
 }
 
 impl From<Placed> for Ran {
-    ghost from_gives = { GivesPlaced };
+    ghost from_gives = { λ placed r. (reply_said r.reply ≡ given_reply placed.answer) × (r.change ≡ placed.change) };
 
     #[tactic(auto, unfolding(crate::specs::Inner::reply_said, crate::specs::Run::given_reply))]
     fn from(placed: Placed) -> Ran {
@@ -40,7 +40,7 @@ impl From<Placed> for Ran {
 }
 
 impl From<TokenPlaced> for Ran {
-    ghost from_gives = { GivesTokenPlaced };
+    ghost from_gives = { λ placed r. (reply_said r.reply ≡ given_reply placed.answer) × (r.change ≡ placed.change) };
 
     fn from(placed: TokenPlaced) -> Ran {
         Ran::from(Placed {
@@ -51,7 +51,7 @@ impl From<TokenPlaced> for Ran {
 }
 
 impl From<Ended> for Ran {
-    ghost from_gives = { GivesEnded };
+    ghost from_gives = { λ ended r. (reply_said r.reply ≡ answer_reply ended.answer) × (r.change ≡ ended.change) };
 
     #[tactic(auto, unfolding(crate::specs::Inner::reply_said, crate::specs::Run::answer_reply))]
     fn from(ended: Ended) -> Ran {

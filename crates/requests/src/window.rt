@@ -40,26 +40,24 @@ pub fn run_window(
     let mut next = number;
     let mut taken = 0;
     let mut written = 0;
+    // A record's length says where the next begins, and its line how much room is left: no iterator counts both.
     while LINE <= out.len() - written {
         let Ok(record) = read_front(&window[taken..]) else {
             break;
         };
         let ran = run(head, &starts, &sizes, &pointers, region, record.request);
-        let reply = ran.reply;
-        let change = ran.change;
-        head = make(head, &mut starts, &mut sizes, &mut pointers, change);
-        written = put_line(out, written, next, reply);
+        head = make(head, &mut starts, &mut sizes, &mut pointers, ran.change);
+        written = put_line(out, written, next, ran.reply);
         taken += record.size;
         next += 1;
     }
-    let held = Arena {
-        head,
-        starts,
-        sizes,
-        pointers,
-    };
     Progress {
-        arena: held,
+        arena: Arena {
+            head,
+            starts,
+            sizes,
+            pointers,
+        },
         number: next,
         taken,
         written,
