@@ -63,7 +63,7 @@ pub fn read_front(bytes: &[u8]) -> Front
         [] => Err(Ending::Complete),
         [_] => Err(Ending::CutOff),
         [high, low, rest @ ..] => {
-            let length = u16::from_be_bytes([*high, *low]) as usize;
+            let length = usize::from(u16::from_be_bytes([*high, *low]));
             let Some(body) = rest.get(..length) else {
                 return Err(Ending::CutOff);
             };
