@@ -5,7 +5,6 @@ pub mod Heading
 pub mod Whole
 pub mod Decimal
 pub mod Putting
-pub mod Running
 pub mod Keeping
 pub mod Lines
 pub mod Stepping

@@ -1,12 +1,13 @@
 -- Running a window, a record at a time: what is run already stands ahead of what the rest comes to. Assumes nothing.
 use Prim.Native.Nat.{ℕ, zero, suc, ◌+◌, ◌-◌, ◌≤◌, ◌<◌}
-use native.Mathlib.Nat.{le_of_eq}
+use native.Mathlib.Nat.{le_refl}
 use native.Mathlib.Omega.{arith}
 use mathlib.Core.Bool.{Bool, true, false, cond}
 use mathlib.Core.List.{List, [], ◌++◌, append_assoc, append-nil}
 use mathlib.Core.Path.{◌≡◌, refl, sym, ap, ◌∙◌}
 use lib.ListN.{length, take, drop, length-drop}
-use lib.Seq.{drop-drop, take_all}
+use lib.Seq.{drop-drop}
+use Rattle.std.proofs.lemmas.Slice.{between_to_end}
 use lib.Dec.{leb}
 use borrow.Author.Tests.{le-leb, lt-leb}
 use Rattle.calls.specs.Bytes.{written}
@@ -60,7 +61,7 @@ goes_on turns room n m window h e = rw (le-leb line_room room h, e)
 
 -- the bytes of a window that are not taken yet, as the code lends them
 pub not_taken : (window : List ℕ) (taken : ℕ) → take (length window - taken) (drop taken window) ≡ drop taken window
-not_taken window taken = take_all (length window - taken) (drop taken window) (le_of_eq (length-drop taken window))
+not_taken window taken = between_to_end window taken (length window) (le_refl (length window))
 
 -- a whole record at their front lies in the window
 pub record Found (window : List ℕ) (taken size : ℕ) (r : Request) : Type 0 where

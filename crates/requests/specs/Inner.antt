@@ -1,23 +1,21 @@
 -- What the contracts between our own functions say. Nothing of document 01 is decided here.
-use Rattle.std.specs.Prelude.{ℕ, ◌+◌, ◌*◌, ◌≡◌, ◌<◌, length, cond, List, [], ◌∷◌, eqb, Result, Ok, Err, Some, None, MatchResult, Option, ⊤}
+use Rattle.std.specs.Prelude.{ℕ, ◌+◌, ◌*◌, ◌≡◌, ◌<◌, length, cond, List, [], ◌∷◌, eqb, Result, Ok, Err, Some, None, MatchResult, Option}
 use Rattle.arena.specs.declared.Arena.{Arena}
 use Rattle.arena.specs.declared.Refusal.{Refusal}
 use Rattle.arena.specs.Inner.{changed_by}
 use Rattle.calls.specs.Bytes.{written}
-use Rattle.calls.specs.declared.Answered.{Answered}
-use Rattle.calls.specs.declared.TokenPlaced.{TokenPlaced}
 use Rattle.requests.specs.declared.Request.TheVariants.{Allocate, Free, Grow, Shrink, Reset, SetLimit, NoLimit, AllocateWithToken, Cancel, Resize}
 use Rattle.requests.specs.declared.Request.{Request as Code-as-Request}
 use Rattle.requests.specs.declared.Record.{Record}
 use Rattle.requests.specs.declared.Ending.{Ending}
 use Rattle.requests.specs.declared.Ending.TheVariants.{Complete, CutOff, BadRecord}
-use Rattle.requests.specs.declared.kind.BadRecord.{BadRecord as NoRequest}
+use Rattle.requests.specs.declared.kind.NoRequest.{NoRequest}
 use Rattle.requests.specs.declared.kind.Kind.{Kind}
 use Rattle.requests.specs.declared.kind.Kind.TheVariants.{Allocate as Allocate·kind, Free as Free·kind, Grow as Grow·kind, Shrink as Shrink·kind, Reset as Reset·kind, SetLimit as SetLimit·kind, NoLimit as NoLimit·kind, AllocateWithToken as AllocateWithToken·kind, Cancel as Cancel·kind, Resize as Resize·kind}
 use Rattle.requests.specs.declared.header.Header.{Header as Code-as-Header}
 use Rattle.requests.specs.declared.run.Ran.{Ran as Code-as-Ran}
 use Rattle.requests.specs.Request.{Request, allocate, free, grow, shrink, reset, set_limit, no_limit, allocate_with_token, cancel, resize, Form}
-use Rattle.requests.specs.Run.{Reply, at_offset, done, refused, given_reply, answer_reply, Ran, ran_to}
+use Rattle.requests.specs.Run.{Reply, at_offset, done, refused, Ran, ran_to}
 use Rattle.requests.specs.Front.{Front, nothing, part, bad, whole}
 use Rattle.requests.specs.Header.{Header}
 
@@ -72,10 +70,6 @@ code_of Resize·kind = 10
 abbrev pub Decodes : ℕ → Result Kind NoRequest → Type 0
 Decodes code r = MatchResult r (λ kind. code_of kind ≡ code) (λ _. 0 < code → 10 < code)
 
--- no request, so a bad record ends the run
-abbrev pub GivesBadRecord : NoRequest → Ending → Type 0
-GivesBadRecord _ e = e ≡ BadRecord
-
 -- a text stands in the output from a place on, the rest is as it was, and the next place is past it
 pub record Put (before : List ℕ) (at : ℕ) (text after : List ℕ) (next : ℕ) : Type 0 where
   pub bytes : after ≡ written before at text
@@ -90,13 +84,3 @@ reply_said (Err r) = refused r
 -- what the code's run and the region's bytes after it say, once its change of the record is made
 unfoldable pub ran_said : Arena → Code-as-Ran → List ℕ → Ran
 ran_said a r bytes = ran_to (reply_said r.reply) (changed_by r.change a) bytes
-
--- what a call answered, as a run
-abbrev pub GivesPlaced : Answered ℕ → Code-as-Ran → Type 0
-GivesPlaced placed r = (reply_said r.reply ≡ given_reply placed.answer) × (r.change ≡ placed.change)
-
-abbrev pub GivesTokenPlaced : TokenPlaced → Code-as-Ran → Type 0
-GivesTokenPlaced placed r = (reply_said r.reply ≡ given_reply placed.answer) × (r.change ≡ placed.change)
-
-abbrev pub GivesEnded : Answered ⊤ → Code-as-Ran → Type 0
-GivesEnded ended r = (reply_said r.reply ≡ answer_reply ended.answer) × (r.change ≡ ended.change)

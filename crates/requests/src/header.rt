@@ -16,7 +16,8 @@ pub struct Header {
 // The bytes of a header.
 pub const HEADER: usize = 6;
 
-pub const VERSION: u8 = 1;
+// The version that is read.
+const VERSION: u8 = 1;
 
 // The longest region.
 pub const MOST_REGION: usize = 65536;

@@ -22,14 +22,14 @@ pub enum Kind {
 
 // Any other code, no code, or a length that doesn't suit the code.
 #[derive(Clone, Copy)]
-pub struct BadRecord;
+pub struct NoRequest;
 
 impl TryFrom<u8> for Kind {
-    type Error = BadRecord;
+    type Error = NoRequest;
 
     ghost try_from_gives = { Decodes };
 
-    fn try_from(code: u8) -> Result<Self, BadRecord> {
+    fn try_from(code: u8) -> Result<Self, NoRequest> {
         match code {
             1 => Ok(Kind::Allocate),
             2 => Ok(Kind::Free),
@@ -41,7 +41,7 @@ impl TryFrom<u8> for Kind {
             8 => Ok(Kind::AllocateWithToken),
             9 => Ok(Kind::Cancel),
             10 => Ok(Kind::Resize),
-            _ => Err(BadRecord),
+            _ => Err(NoRequest),
         }
     }
 }

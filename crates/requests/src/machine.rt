@@ -183,6 +183,7 @@ fn swallow(state: State, window: &[u8]) -> Fed
 
 // Takes what it can of the window: nothing while its front is not a whole header or record, or fewer than 64 bytes of the output are free. What is
 // not ready stays as it is.
+#[tactic(auto, unfolding(crate::specs::Feed::stage_said, crate::specs::Feed::ready))]
 pub fn feed(state: State, lent: &mut [u8], window: &[u8], out: &mut [u8]) -> Fed
     ensures came { Came (step_of (ready state.arena state.number (length lent.old) (length window.now)) (stage_said state.stage) lent.old state.number (memory_in state.arena lent.old) window.now (length out.old)) lent.old out.old result lent.new out.new }
     ensures taken_in_bounds { (result.taken ≤ length window.now) × (result.written ≤ length out.new) }

@@ -1,4 +1,6 @@
 // Writing lines. Each writer puts a text into the output at a place and answers the place past it.
+// No `Display`: that says what is written only where the write succeeds, and a line is always written.
+// No struct of the output and the place: each of its methods would have to say two things more, that it still holds these bytes and as many.
 ghost use Rattle.std.specs.Prelude.{◌≡◌, ◌+◌, ◌≤◌, length, ◌++◌};
 ghost use Rattle.requests.specs.Text.{decimal, newline, line_of, held_text, in_text, chunks_text};
 ghost use Rattle.requests.specs.Inner.{Put, reply_said};
@@ -19,6 +21,7 @@ pub fn put_number(out: &mut [u8], at: usize, n: usize) -> usize
     ensures put { Put out.old at (decimal n) out.new result }
     ensures bound { result ≤ at + 20 }
 {
+    // A buffer and its length, as there is no heap.
     let mut digits = [0u8; 20];
     let k = io::decimal(n as u64, &mut digits);
     put_text(out, at, &digits[..k])

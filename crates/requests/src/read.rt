@@ -3,9 +3,10 @@ ghost use Rattle.std.specs.Prelude.{◌≡◌, ◌<◌};
 ghost use Rattle.requests.specs.Bytes.{byte_at, number32};
 ghost use Rattle.requests.specs.Request.{request_of};
 ghost use Rattle.requests.specs.Front.{front_of};
-ghost use Rattle.requests.specs.Inner.{front_said, request_read, GivesBadRecord};
+ghost use Rattle.requests.specs.Inner.{front_said, request_read};
+ghost use Rattle.requests.specs.declared.Ending.TheVariants.{BadRecord};
 
-use crate::kind::{BadRecord, Kind};
+use crate::kind::{Kind, NoRequest};
 use crate::{Ending, Front, Record, Request};
 
 // The byte at a place, and 0 past the end.
@@ -30,25 +31,25 @@ pub fn number_at(bytes: &[u8], i: usize) -> usize
     u32::from_be_bytes(four) as usize
 }
 
-impl From<BadRecord> for Ending {
-    ghost from_gives = { GivesBadRecord };
+impl From<NoRequest> for Ending {
+    ghost from_gives = { λ _ e. e ≡ BadRecord };
 
-    fn from(_: BadRecord) -> Ending {
+    fn from(_: NoRequest) -> Ending {
         Ending::BadRecord
     }
 }
 
 // A whole record, by its own bytes.
 #[tactic(auto, unfolding(crate::specs::Inner::request_read, crate::specs::Inner::size_by, crate::specs::Request::request_by, crate::specs::Request::request_of))]
-fn read_record(body: &[u8]) -> Result<Request, BadRecord>
+fn read_record(body: &[u8]) -> Result<Request, NoRequest>
     ensures { request_read result ≡ request_of body.now }
 {
     let [code, ..] = body else {
-        return Err(BadRecord);
+        return Err(NoRequest);
     };
     let kind = Kind::try_from(*code)?;
     if body.len() != kind.length() {
-        return Err(BadRecord);
+        return Err(NoRequest);
     }
     Ok(kind.request(body))
 }
@@ -62,7 +63,7 @@ pub fn read_front(bytes: &[u8]) -> Front
         [] => Err(Ending::Complete),
         [_] => Err(Ending::CutOff),
         [high, low, rest @ ..] => {
-            let length = u16::from_be_bytes([*high, *low]) as usize;
+            let length = usize::from(u16::from_be_bytes([*high, *low]));
             let Some(body) = rest.get(..length) else {
                 return Err(Ending::CutOff);
             };

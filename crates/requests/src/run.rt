@@ -1,8 +1,8 @@
 // Running one request on a record that is known to be sound: nothing tests it again, and its holder makes the change.
 ghost use Rattle.std.specs.Prelude.{◌≡◌, length};
 ghost use Rattle.arena.specs.Inner.{lent_of};
-ghost use Rattle.requests.specs.Run.{done, run_in};
-ghost use Rattle.requests.specs.Inner.{reply_said, request_said, ran_said, GivesPlaced, GivesTokenPlaced, GivesEnded};
+ghost use Rattle.requests.specs.Run.{done, given_reply, answer_reply, run_in};
+ghost use Rattle.requests.specs.Inner.{reply_said, request_said, ran_said};
 
 use crate::{Reply, Request};
 use arena::change::Change;
@@ -23,7 +23,7 @@ pub struct Ran {
 }
 
 impl From<Answered<usize>> for Ran {
-    ghost from_gives = { GivesPlaced };
+    ghost from_gives = { λ placed r. (reply_said r.reply ≡ given_reply placed.answer) × (r.change ≡ placed.change) };
 
     #[tactic(auto, unfolding(crate::specs::Inner::reply_said, crate::specs::Run::given_reply))]
     fn from(placed: Answered<usize>) -> Ran {
@@ -35,7 +35,7 @@ impl From<Answered<usize>> for Ran {
 }
 
 impl From<TokenPlaced> for Ran {
-    ghost from_gives = { GivesTokenPlaced };
+    ghost from_gives = { λ placed r. (reply_said r.reply ≡ given_reply placed.answer) × (r.change ≡ placed.change) };
 
     fn from(placed: TokenPlaced) -> Ran {
         Ran::from(Answered {
@@ -46,7 +46,7 @@ impl From<TokenPlaced> for Ran {
 }
 
 impl From<Answered<()>> for Ran {
-    ghost from_gives = { GivesEnded };
+    ghost from_gives = { λ ended r. (reply_said r.reply ≡ answer_reply ended.answer) × (r.change ≡ ended.change) };
 
     #[tactic(auto, unfolding(crate::specs::Inner::reply_said, crate::specs::Run::answer_reply))]
     fn from(ended: Answered<()>) -> Ran {
@@ -68,6 +68,7 @@ fn always(change: Change) -> Ran
     }
 }
 
+#[tactic(auto, unfolding(crate::specs::Run::run_in, crate::specs::Inner::request_said, crate::specs::Inner::ran_said, crate::specs::Run::answer_reply, arena::specs::Inner::changed_by, arena::specs::Inner::limited_by, arena::specs::Creation::reset_of, arena::specs::Creation::set_limit_of, arena::specs::Creation::no_limit_of, arena::specs::Refusals::answered, arena::specs::Refusals::refused_by))]
 pub fn run(a: &Sound, region: &mut [u8], request: Request) -> Ran
     requires { length region.old ≡ a.now.lent.head.region }
     ensures { ran_said (lent_of a.now.lent) result region.new ≡ run_in (request_said request) (lent_of a.now.lent) region.old }

@@ -42,6 +42,7 @@ pub fn run_window(
     let mut next = number;
     let mut taken = 0;
     let mut written = 0;
+    // A record's length says where the next begins, and its line how much room is left: no iterator counts both.
     while LINE <= out.len() - written {
         let Ok(record) = read_front(&window[taken..]) else {
             break;

@@ -1,9 +1,7 @@
 -- `requests::machine::feed` meets its contract: what is ready is fed by its stage. Assumes nothing.
 use mathlib.Core.Path.{refl, sym, ap, ◌∙◌}
-use borrow.Author.Rules.{rules}
-use lib.ListN.{length}
 use Rattle.requests.specs.Feed.{step_at, step_of, stage_said}
-use Rattle.requests.proofs.Feeds.{came-still, ready-open, came-known}
+use Rattle.requests.proofs.Feeds.{came-still, came-known}
 use Rattle.requests.proofs.machine.feed.Goals as goal
 
 pub returns-then-not-is_ready : goal.returns-then-not-is_ready
@@ -13,15 +11,6 @@ returns-then-not-is_ready c =
     let both = came-known a.state a.lent.now a.window.now a.out.now (sym c.is_ready.ensures ∙ c.if-not-is_ready.true) refl refl
     (came-still a.state c.stay.result a.lent.now a.out.now refl c.stay.ensures) in
     record { came = both.0; taken_in_bounds = both.1 }
-
-pub open-requires : goal.open-requires
-unfolding stage_said
-open-requires c = ap stage_said c.in-Heading.is
-
-pub run_on-requires : goal.run_on-requires
-run_on-requires c =
-    ready-open c.args.state.arena c.args.state.number (length c.args.lent.now) (length c.args.window.now) (search rules)
-    (sym c.is_ready.ensures ∙ c.if-not-is_ready.false)
 
 pub returns-in-Heading : goal.returns-in-Heading
 unfolding step_of stage_said

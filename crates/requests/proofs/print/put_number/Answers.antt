@@ -4,12 +4,6 @@ use mathlib.Core.Path.{◌∙◌}
 use Rattle.requests.proofs.Decimal.{digits_decimal, fewest-bound}
 use Rattle.requests.proofs.print.put_number.Goals as goal
 
-pub put_text-requires : goal.put_text-requires
-put_text-requires c =
-    let d = c.decimal-k in
-    let bound = fewest-bound d.result _ c.ranges.n.fits d.ensures.len in
-    omega (arith, d.ensures.in_bounds, c.requires)
-
 pub returns : goal.returns
 returns c =
     let d = c.decimal-k in

@@ -54,12 +54,6 @@ loop-out-preserved c =
       c.run-ran.auto.region ∙ c.loop-out.invariant.1,
     )
 
-pub shape_of-region-after-loop-out : goal.shape_of-region-after-loop-out
-shape_of-region-after-loop-out c = c.loop-out.invariant.1
-
-pub shape_of-out-after-loop-out : goal.shape_of-out-after-loop-out
-shape_of-out-after-loop-out c = c.loop-out.invariant.0.same
-
 -- the output has no room for a line
 pub returns-after-loop-out : goal.returns-after-loop-out
 returns-after-loop-out c =
@@ -69,12 +63,6 @@ returns-after-loop-out c =
     l.taken l.written l.region l.out l.invariant.0
     (stops-by-room l.invariant.0.turns (length c.args.out.now - l.written) l.next (memory_of own l.region) (drop l.taken c.args.window.now)
     (omega (arith, l.invariant.0.same, c.loop-out-test.false)))
-
-pub shape_of-region-in_default : goal.shape_of-region-in_default
-shape_of-region-in_default c = c.loop-out.invariant.1
-
-pub shape_of-out-in_default : goal.shape_of-out-in_default
-shape_of-out-in_default c = c.loop-out.invariant.0.same
 
 -- a front that is not opened is not whole
 not-whole : (f : Result Record Ending) → ((r : Record) → f ≡ Ok r → ⊥) → is_whole (front_said f) ≡ false
