@@ -18,7 +18,7 @@ returns-in-Err c =
     let s = c.args in
     let answered = sym c.in-Err.ensures.err ∙ ap (λ (a : Arena). first_of (lent_tests a s.lent)) c.lent.ensures in
     let zeros = c.default.ensures in
-    (λ i. record { refusal = c.number.ensures i; left = zeros.1.0 i; offset = zeros.1.1.0 i; length = zeros.1.1.1 i })
+    (λ i. record { refusal = c.number.ensures.value i; left = zeros.1.0 i; offset = zeros.1.1.0 i; length = zeros.1.1.1 i })
     ∙ step-refused s.a.now s.lent s.index answered
 
 pub returns-then-count-index : goal.returns-then-count-index
