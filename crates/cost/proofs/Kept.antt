@@ -44,6 +44,7 @@ abbrev pub Held : ℕ → Arena → Type 0
 Held n a = (sound_of a ≡ true) × (n ≡ a.head.region)
 
 pub still-held : (n : ℕ) (a b lent : Arena) (change : Change) → b ≡ changed_by change a → lent ≡ a → Keeps lent change → Held n a → Held n b
-still-held n a b lent change e same keeps held =
-    (ap sound_of e ∙ ap (λ o. sound_of (changed_by change o)) (sym same) ∙ keeps,
-     held.1 ∙ sym (ap (λ (o : Arena). o.head.region) e ∙ changed-region change a))
+still-held n a b lent change e same keeps held = (
+  ap sound_of e ∙ ap (λ o. sound_of (changed_by change o)) (sym same) ∙ keeps,
+  held.1 ∙ sym (ap (λ (o : Arena). o.head.region) e ∙ changed-region change a),
+)

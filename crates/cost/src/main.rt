@@ -5,11 +5,10 @@
 // of it in one turn serves the next. The current chunk has room for 110 turns that take 48 bytes each.
 #![tactic(auto)]
 
-ghost use Rattle.std.specs.Prelude.{◌≤◌, ◌<◌, length};
+ghost use Rattle.std.specs.Prelude.{◌≤◌, ◌<◌};
 
 mod inner;
 
-use arena::sound::is_sound;
 use arena::{Arena, Head};
 use inner::Numbers;
 use std::env::Args;
@@ -119,29 +118,6 @@ fn holding(chunks: usize) -> Arena
     out
 }
 
-// A pointer moves each turn.
-fn sound_turns(a: Arena, turns: usize) -> usize
-    requires { turns ≤ 128 }
-{
-    let mut now = a;
-    for turn in 0..turns {
-        now.pointers[0] = 15 + turn % 2;
-        if !is_sound(&now.lent()) {
-            return turn;
-        }
-    }
-    turns
-}
-
-fn served(work: Work, a: Arena, region: &mut [u8], numbers: &[Numbers]) -> usize
-    requires { length numbers.now ≤ 128 }
-{
-    if let Work::Sound = work {
-        return sound_turns(a, numbers.len());
-    }
-    inner::served(work, a, region, numbers)
-}
-
 fn main(rt: HostRuntime) -> io::Result<()> {
     let mut arguments = env::args(&rt)?;
     let _program = arguments.next();
@@ -168,7 +144,7 @@ fn main(rt: HostRuntime) -> io::Result<()> {
         nothing: 0,
     }; MOST_TURNS];
     let found = match Work::try_from(what) {
-        Ok(work) => served(work, holding(chunks), &mut region, &numbers[..turns]),
+        Ok(work) => inner::served(work, &holding(chunks), &mut region, &numbers[..turns]),
         Err(()) => 0,
     };
     println!(rt; "{found}")

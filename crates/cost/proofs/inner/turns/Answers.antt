@@ -13,9 +13,9 @@ second-after-requires g c =
     let own : Arena = record_of c.loop-turn.head c.loop-turn.starts c.loop-turn.sizes c.loop-turn.pointers in
     let made : Arena = record_of c.make-head.result c.make-head.new.starts c.make-head.new.sizes c.make-head.new.pointers in
     let held : Held (length c.loop-turn.region) made =
-        still-held _ own made _ _ c.make-head.ensures (ap lent_of c.known.ensures) (c.requires.first_keeps _ _ _ c.first-got.ensures) c.loop-turn.invariant in
+    still-held _ own made _ _ c.make-head.ensures (ap lent_of c.known.ensures) (c.requires.first_keeps _ _ _ c.first-got.ensures) c.loop-turn.invariant in
     let fits : length c.loop-turn.region ≡ c.known-in-loop-turn.result.lent.head.region =
-        held.1 ∙ sym (ap (λ l. (lent_of l).head.region) c.known-in-loop-turn.ensures) in
+    held.1 ∙ sym (ap (λ l. (lent_of l).head.region) c.known-in-loop-turn.ensures) in
     search (fits, rules)
 
 pub loop-turn-preserved : goal.loop-turn-preserved
@@ -23,7 +23,7 @@ loop-turn-preserved g c =
     let own : Arena = record_of c.loop-turn.head c.loop-turn.starts c.loop-turn.sizes c.loop-turn.pointers in
     let made : Arena = record_of c.make-head.result c.make-head.new.starts c.make-head.new.sizes c.make-head.new.pointers in
     let held : Held (length c.loop-turn.region) made =
-        still-held _ own made _ _ c.make-head.ensures (ap lent_of c.known.ensures) (c.requires.first_keeps _ _ _ c.first-got.ensures) c.loop-turn.invariant in
+    still-held _ own made _ _ c.make-head.ensures (ap lent_of c.known.ensures) (c.requires.first_keeps _ _ _ c.first-got.ensures) c.loop-turn.invariant in
     let after = still-held _ made _ _ _ c.make-head-in-loop-turn.ensures (ap lent_of c.known-in-loop-turn.ensures)
-        (c.requires.second_keeps _ _ _ _ _ _ c.second-after.ensures) held in
+    (c.requires.second_keeps _ _ _ _ _ _ c.second-after.ensures) held in
     (after.0, c.second-after.auto.arg3 ∙ after.1)
