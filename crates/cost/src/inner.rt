@@ -1,4 +1,4 @@
-// Turns of calls on a record that is found sound once and is changed in place; and turns of that test alone. Each tests what its call tests of its numbers.
+// Turns of calls on a record that was found sound once and is changed in place. Each tests what its call tests of its numbers.
 //
 // What needs a block is given one in the same turn, so a second call with its tests is its turn less that of the first call, `allocate` or
 // `allocate_with_token` with nothing after it. `*_tests` go as far as the tests, so the work that is left once they are done is the call's turn less those.
@@ -10,10 +10,9 @@ ghost use Rattle.arena.specs.Sound.{sound_of};
 ghost use Rattle.arena.specs.Inner.{lent_of};
 ghost use Rattle.cost.specs.Turns.{Keeps};
 
-use crate::Work;
 use arena::change::{Change, make};
 use arena::lent::Lent;
-use arena::sound::{Sound, is_sound};
+use arena::sound::Sound;
 use arena::{Arena, Refusal};
 use calls::allocate::allocate_placed;
 use calls::block::is_last_block;
@@ -23,6 +22,22 @@ use calls::{Answered, Token};
 use reshape::grow::grow_placed;
 use reshape::shrink::shrink_placed;
 use takeback::tokens::{allocate_with_token_placed, cancel_ended, is_bad_token};
+
+// The calls of a turn, or the tests of its second one.
+#[derive(Clone, Copy)]
+pub enum Calls {
+    Allocate,
+    Free,
+    Grow,
+    Shrink,
+    Token,
+    Cancel,
+    Reset,
+    FreeTests,
+    GrowTests,
+    ShrinkTests,
+    CancelTests,
+}
 
 // The numbers of a turn: what it asks for first, what its second call names and asks for, and nothing, which is 0.
 #[derive(Clone, Copy)]
@@ -42,8 +57,6 @@ fn allocate(a: &Sound, n: &Numbers) -> Answered<usize>
     allocate_placed(a, n.size, n.align)
 }
 
-// Put into its callers, or each turn would store and load what it answers.
-#[inline]
 fn allocate_with_token(a: &Sound, n: &Numbers) -> Answered<(usize, Token)>
     ensures { Keeps (lent_of a.now.lent) result.change }
 {
@@ -174,10 +187,9 @@ fn known<'a>(lent: Lent<'a>) -> Sound<'a>
     Sound { lent }
 }
 
-// How many turns were served before one was refused: each makes the change of a first call, and then that of a second one, which is told what the first
-// gave. None is on a record that is not sound, or is lent another region; that is tested once.
+// How many turns were served before one was refused: each makes the change of a first call, and then that of a second one, which is told what the first gave.
 fn turns<T: Copy, U: Copy, F, S>(
-    a: &Arena,
+    a: &Sound,
     region: &mut [u8],
     numbers: &[Numbers],
     first: F,
@@ -186,18 +198,16 @@ fn turns<T: Copy, U: Copy, F, S>(
 where
     F: Fn(&Sound, &Numbers) -> Answered<T>,
     S: Fn(&Sound, &mut [u8], T, &Numbers) -> Answered<U>,
+    requires lent { length region.old ≡ a.now.lent.head.region }
     requires first_served { F.IsAlwaysCallable first }
     requires first_keeps { (s : _) (n : _) (got : _) → F.post first s n got → Keeps (lent_of s.now.lent) got.change }
     requires second_served { (s : _) (r : _) (given : _) (n : _) → length r.now ≡ s.now.lent.head.region → S.pre second s r given n }
     requires second_keeps { (s : _) (r : _) (given : _) (n : _) (got : _) (q : _) → S.post second s r given n got q → Keeps (lent_of s.now.lent) got.change }
 {
-    let Ok(found) = lent_sound(a.lent(), region.len()) else {
-        return 0;
-    };
-    let mut head = found.lent.head;
-    let mut starts = *found.lent.starts;
-    let mut sizes = *found.lent.sizes;
-    let mut pointers = *found.lent.pointers;
+    let mut head = a.lent.head;
+    let mut starts = *a.lent.starts;
+    let mut sizes = *a.lent.sizes;
+    let mut pointers = *a.lent.pointers;
     for (turn, n) in numbers.iter().enumerate() {
         let got = first(
             &known(Lent {
@@ -231,31 +241,22 @@ where
     numbers.len()
 }
 
-// A pointer moves each turn.
-fn sound_turns(a: &Arena, turns: usize) -> usize {
-    let mut now = *a;
-    for turn in 0..turns {
-        now.pointers[0] = 15 + turn % 2;
-        if !is_sound(&now.lent()) {
-            return turn;
-        }
-    }
-    turns
-}
-
-pub fn served(work: Work, a: &Arena, region: &mut [u8], numbers: &[Numbers]) -> usize {
-    match work {
-        Work::Sound => sound_turns(a, numbers.len()),
-        Work::Allocate => turns(a, region, numbers, allocate, nothing),
-        Work::Free => turns(a, region, numbers, allocate, free),
-        Work::Grow => turns(a, region, numbers, allocate, grow),
-        Work::Shrink => turns(a, region, numbers, allocate, shrink),
-        Work::Token => turns(a, region, numbers, allocate_with_token, nothing),
-        Work::Cancel => turns(a, region, numbers, allocate_with_token, cancel),
-        Work::Reset => turns(a, region, numbers, allocate, reset),
-        Work::FreeTests => turns(a, region, numbers, allocate, free_tests),
-        Work::GrowTests => turns(a, region, numbers, allocate, grow_tests),
-        Work::ShrinkTests => turns(a, region, numbers, allocate, shrink_tests),
-        Work::CancelTests => turns(a, region, numbers, allocate_with_token, cancel_tests),
+// The one test of the record and its region.
+pub fn served(calls: Calls, a: Arena, region: &mut [u8], numbers: &[Numbers]) -> usize {
+    let Ok(a) = lent_sound(a.lent(), region.len()) else {
+        return 0;
+    };
+    match calls {
+        Calls::Allocate => turns(&a, region, numbers, allocate, nothing),
+        Calls::Free => turns(&a, region, numbers, allocate, free),
+        Calls::Grow => turns(&a, region, numbers, allocate, grow),
+        Calls::Shrink => turns(&a, region, numbers, allocate, shrink),
+        Calls::Token => turns(&a, region, numbers, allocate_with_token, nothing),
+        Calls::Cancel => turns(&a, region, numbers, allocate_with_token, cancel),
+        Calls::Reset => turns(&a, region, numbers, allocate, reset),
+        Calls::FreeTests => turns(&a, region, numbers, allocate, free_tests),
+        Calls::GrowTests => turns(&a, region, numbers, allocate, grow_tests),
+        Calls::ShrinkTests => turns(&a, region, numbers, allocate, shrink_tests),
+        Calls::CancelTests => turns(&a, region, numbers, allocate_with_token, cancel_tests),
     }
 }

@@ -9,8 +9,9 @@ ghost use Rattle.std.specs.Prelude.{◌≤◌, ◌<◌};
 
 mod inner;
 
+use arena::sound::is_sound;
 use arena::{Arena, Head};
-use inner::Numbers;
+use inner::{Calls, Numbers};
 use std::env::Args;
 use std::{env, io};
 
@@ -18,42 +19,35 @@ const REGION: usize = 8192;
 // As many turns as the list has numbers for.
 const MOST_TURNS: usize = 128;
 
-// What a turn does: the soundness test alone, a call on a sound record, or what such a call tests.
+// What a turn does: the soundness test alone, or calls on a sound record.
 #[derive(Clone, Copy)]
-pub enum Work {
-    Sound = 0,
-    Allocate = 1,
-    Free = 2,
-    Grow = 3,
-    Shrink = 4,
-    Token = 5,
-    Cancel = 6,
-    Reset = 7,
-    FreeTests = 12,
-    GrowTests = 13,
-    ShrinkTests = 14,
-    CancelTests = 16,
+enum Work {
+    Sound,
+    Calls(Calls),
 }
 
-impl TryFrom<usize> for Work {
-    type Error = ();
+// The number of no work.
+struct NoWork;
 
-    fn try_from(number: usize) -> Result<Self, ()> {
-        match number {
-            0 => Ok(Work::Sound),
-            1 => Ok(Work::Allocate),
-            2 => Ok(Work::Free),
-            3 => Ok(Work::Grow),
-            4 => Ok(Work::Shrink),
-            5 => Ok(Work::Token),
-            6 => Ok(Work::Cancel),
-            7 => Ok(Work::Reset),
-            12 => Ok(Work::FreeTests),
-            13 => Ok(Work::GrowTests),
-            14 => Ok(Work::ShrinkTests),
-            16 => Ok(Work::CancelTests),
-            _ => Err(()),
-        }
+impl TryFrom<usize> for Work {
+    type Error = NoWork;
+
+    fn try_from(number: usize) -> Result<Self, NoWork> {
+        Ok(match number {
+            0 => Work::Sound,
+            1 => Work::Calls(Calls::Allocate),
+            2 => Work::Calls(Calls::Free),
+            3 => Work::Calls(Calls::Grow),
+            4 => Work::Calls(Calls::Shrink),
+            5 => Work::Calls(Calls::Token),
+            6 => Work::Calls(Calls::Cancel),
+            7 => Work::Calls(Calls::Reset),
+            12 => Work::Calls(Calls::FreeTests),
+            13 => Work::Calls(Calls::GrowTests),
+            14 => Work::Calls(Calls::ShrinkTests),
+            16 => Work::Calls(Calls::CancelTests),
+            _ => return Err(NoWork),
+        })
     }
 }
 
@@ -118,6 +112,18 @@ fn holding(chunks: usize) -> Arena
     out
 }
 
+// A pointer moves each turn.
+fn sound_turns(a: Arena, turns: usize) -> usize {
+    let mut now = a;
+    for turn in 0..turns {
+        now.pointers[0] = 15 + turn % 2;
+        if !is_sound(&now.lent()) {
+            return turn;
+        }
+    }
+    turns
+}
+
 fn main(rt: HostRuntime) -> io::Result<()> {
     let mut arguments = env::args(&rt)?;
     let _program = arguments.next();
@@ -144,8 +150,14 @@ fn main(rt: HostRuntime) -> io::Result<()> {
         nothing: 0,
     }; MOST_TURNS];
     let found = match Work::try_from(what) {
-        Ok(work) => inner::served(work, &holding(chunks), &mut region, &numbers[..turns]),
-        Err(()) => 0,
+        Ok(Work::Sound) => sound_turns(holding(chunks), turns),
+        Ok(Work::Calls(calls)) => inner::served(
+            calls,
+            holding(chunks),
+            &mut region,
+            &numbers[..turns],
+        ),
+        Err(NoWork) => 0,
     };
     println!(rt; "{found}")
 }
