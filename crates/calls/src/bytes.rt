@@ -2,11 +2,21 @@
 ghost use Rattle.std.specs.Prelude.{◌≡◌, ◌+◌, ◌≤◌, length, replicate};
 ghost use Rattle.calls.specs.Bytes.{written, carried};
 
+// Each byte of the part becomes value. It stores by itself, where the library's `fill` would do it: of its code the test of `specs/Stores.antt` is computed
+// (`set-all-stores`).
+fn set_all(part: &mut [u8], value: u8)
+    ensures { part.new ≡ replicate (length part.old) value }
+{
+    for byte in part.iter_mut() {
+        *byte = value;
+    }
+}
+
 pub fn fill(region: &mut [u8], at: usize, size: usize, value: u8)
     requires { at + size ≤ length region.old }
     ensures { region.new ≡ written region.old at (replicate size value) }
 {
-    region[at..at + size].fill(value);
+    set_all(&mut region[at..at + size], value);
 }
 
 pub fn copy_from(region: &mut [u8], at: usize, source: &[u8])
