@@ -27,7 +27,6 @@ pub mod Serving
 pub mod Shrinking
 pub mod Some
 pub mod StaysSound
-pub mod Stores
 pub mod Testing
 pub mod Touching
 pub mod Unread

@@ -1,20 +1,12 @@
 -- Tests that are joined by `&&`, `||` and `not`, taken apart and put together. What a test on numbers tells, as `leb a b ≡ true`, is in `borrow.Author.Tests`.
--- Assumes nothing.
+-- Some are the library's, under the names that they have here. Assumes nothing.
 use mathlib.Core.Bool.{Bool, true, false, not, ◌&&◌, ◌||◌, true≢false}
-use mathlib.Core.Logic.{◌⊎◌, inl, inr}
 use mathlib.Core.Path.{◌≡◌, refl, sym, ◌∙◌, ap}
+pub use Rattle.std.proofs.lemmas.Bool.{cases_Bool as decided, false_from_ne_true as refute, or_cases}
 
--- a test holds or fails, and never both
-pub decided : (b : Bool) → (b ≡ true) ⊎ (b ≡ false)
-decided true = inl refl
-decided false = inr refl
-
+-- a test holds or fails (`decided`), and never both
 pub true-false : {b : Bool} → b ≡ true → b ≡ false → ⊥
 true-false t f = true≢false (sym t ∙ f)
-
-pub refute : (b : Bool) → (b ≡ true → ⊥) → b ≡ false
-refute true h = absurd (h refl)
-refute false h = refl
 
 -- two tests that imply each other are equal
 pub same : {a b : Bool} → (a ≡ true → b ≡ true) → (b ≡ true → a ≡ true) → a ≡ b
@@ -33,10 +25,6 @@ and_right false b h = absurd (true-false h refl)
 pub and_both : {a b : Bool} → a ≡ true → b ≡ true → (a && b) ≡ true
 and_both {b} p q = ap (λ (t : Bool). t && b) p ∙ q
 
-pub and_cases : (a b : Bool) → (a && b) ≡ false → (a ≡ false) ⊎ (b ≡ false)
-and_cases true b h = inr h
-and_cases false b h = inl refl
-
 -- either
 pub or_left : {a : Bool} (b : Bool) → a ≡ true → (a || b) ≡ true
 or_left b p = ap (λ (t : Bool). t || b) p
@@ -44,10 +32,6 @@ or_left b p = ap (λ (t : Bool). t || b) p
 pub or_right : (a : Bool) {b : Bool} → b ≡ true → (a || b) ≡ true
 or_right true q = refl
 or_right false q = q
-
-pub or_cases : (a b : Bool) → (a || b) ≡ true → (a ≡ true) ⊎ (b ≡ true)
-or_cases true b h = inl refl
-or_cases false b h = inr h
 
 pub or-false-left : (a b : Bool) → (a || b) ≡ false → a ≡ false
 or-false-left true b h = h
