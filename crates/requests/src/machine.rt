@@ -72,13 +72,13 @@ pub fn is_ready(state: &State, lent: &[u8], window: &[u8]) -> bool
         && is_sound(&state.arena.lent())
 }
 
-// Nothing is taken.
-fn stay(state: State) -> Fed
-    ensures { (result.state ≡ state) × (result.taken ≡ 0) × (result.written ≡ 0) }
+// So many bytes are taken, and change nothing.
+fn stay(state: State, taken: usize) -> Fed
+    ensures { (result.state ≡ state) × (result.taken ≡ taken) × (result.written ≡ 0) }
 {
     Fed {
         state,
-        taken: 0,
+        taken,
         written: 0,
     }
 }
@@ -89,10 +89,10 @@ fn open(state: State, window: &[u8], out: &mut [u8]) -> Fed
     ensures { (lent : List ℕ) → Came (step_at heading lent state.number (memory_in state.arena lent) window.now (length out.old)) lent out.old result lent out.new }
 {
     if window.len() < HEADER {
-        return stay(state);
+        return stay(state, 0);
     }
     if out.len() < LINE {
-        return stay(state);
+        return stay(state, 0);
     }
     let Some(Header { minimum, region }) = read_header(window) else {
         let written = put_text(out, 0, b"0 bad header\n");
@@ -170,17 +170,6 @@ fn run_on(state: State, lent: &mut [u8], window: &[u8], out: &mut [u8]) -> Fed
     }
 }
 
-// A run that has stopped swallows every byte.
-fn swallow(state: State, window: &[u8]) -> Fed
-    ensures { (result.state ≡ state) × (result.taken ≡ length window.now) × (result.written ≡ 0) }
-{
-    Fed {
-        state,
-        taken: window.len(),
-        written: 0,
-    }
-}
-
 // Takes what it can of the window: nothing while its front is not a whole header or record, or fewer than 64 bytes of the output are free. What is
 // not ready stays as it is.
 #[tactic(auto, unfolding(crate::specs::Feed::stage_said, crate::specs::Feed::ready))]
@@ -189,12 +178,13 @@ pub fn feed(state: State, lent: &mut [u8], window: &[u8], out: &mut [u8]) -> Fed
     ensures taken_in_bounds { (result.taken ≤ length window.now) × (result.written ≤ length out.new) }
 {
     if !is_ready(&state, lent, window) {
-        return stay(state);
+        return stay(state, 0);
     }
     match state.stage {
         Stage::Heading => open(state, window, out),
         Stage::Running => run_on(state, lent, window, out),
-        Stage::Stopped => swallow(state, window),
+        // Every byte is swallowed.
+        Stage::Stopped => stay(state, window.len()),
     }
 }
 

@@ -34,5 +34,5 @@ returns-in-Stopped c =
     let a = c.args in
     let stage = ap stage_said c.in-Stopped.is in
     let both = came-known a.state a.lent.now a.window.now a.out.now (sym c.is_ready.ensures ∙ c.if-not-is_ready.false) stage refl
-    (came-still a.state c.swallow.result a.lent.now a.out.now stage c.swallow.ensures) in
+    (came-still a.state c.stay-in-Stopped.result a.lent.now a.out.now stage c.stay-in-Stopped.ensures) in
     record { came = both.0; taken_in_bounds = both.1 }
