@@ -10,6 +10,7 @@ use lib.ListN.{set}
 use borrow.Author.Tests.{eq-eqb}
 use Rattle.rounding.proofs.Tests.{true-not}
 use Rattle.arena.specs.declared.Arena.{Arena}
+use Rattle.arena.specs.declared.Outcome.{Outcome}
 use Rattle.arena.specs.declared.Refusal.{Refusal}
 use Rattle.arena.specs.declared.Refusal.TheVariants.{State}
 use Rattle.arena.specs.declared.change.Change.TheVariants.{Moved, Kept}
@@ -36,6 +37,10 @@ use Rattle.fast.specs.Parts.{head_of, parts_of}
 
 -- of a, the record as it was read, and b, the one that is lent
 module _ {a b : Arena} (read : a ≡ b) where
+  -- an inner form's answer is the call's
+  pub answered-in-parts : {T : Type 0} (call : Arena → Outcome T) (got : Answered T) → AnsweredBy call a got → answered_of b got ≡ call b
+  answered-in-parts call got answered = ap (λ (x : Arena). answered_of x got) (sym read) ∙ answered ∙ ap call read
+
   -- an inner form's answer and token in numbers, once its change is made in place
   pub token-in-parts : (call : Arena → TokenAllocation) (got : TokenPlaced) {r : SaidToken} {after : Arena} →
       TokenPlacedBy call a got → r ≡ token_said got.answer got.token → after ≡ changed_by got.change b →
@@ -68,8 +73,7 @@ pub moved-in-parts : (call : Arena → Allocation) {a : Arena} (head starts size
 unfolding said_given
 moved-in-parts call {a} head starts sizes pointers p read sound held answered =
     let b = parts_of head starts sizes pointers in
-    let got : Answered ℕ = record { answer = Ok p; change = Moved p } in
-    let whole : answered_of b got ≡ call b = ap (λ (x : Arena). answered_of x got) (sym read) ∙ answered ∙ ap call read in
+    let whole = answered-in-parts read call _ answered in
     let count : a.head.count ≡ (head_of head).count = ap (λ (x : Arena). x.head.count) read in (
       ap (λ (o : Allocation). said_given o.answer) whole,
       ap (λ (k : ℕ). parts_of head starts sizes (set pointers (k - 1) p)) count

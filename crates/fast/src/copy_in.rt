@@ -6,8 +6,8 @@ ghost use Rattle.calls.specs.Write.{copy_in_bytes};
 ghost use Rattle.host.specs.Said.{said_given};
 ghost use Rattle.fast.specs.Parts.{head_of, parts_of};
 
-use crate::allocate::miravoly_sound_allocate;
-use crate::parts::lent_in;
+use crate::parts::{lent_in, make_in_parts, sound_in};
+use calls::allocate::allocate_placed;
 use calls::bytes::copy_from;
 use calls::refusals::lent_answer;
 use host::Said;
@@ -27,11 +27,13 @@ pub extern "C" fn miravoly_sound_copy_in(
     ensures pointers_after { parts_of head.new starts.new sizes.new pointers.new ≡ (allocate_of (parts_of head.old starts.old sizes.old pointers.old) (length region.old) (length source.now) align).arena }
     ensures region_after { region.new ≡ copy_in_bytes (parts_of head.old starts.old sizes.old pointers.old) region.old source.now align }
 {
-    let said = miravoly_sound_allocate(head, starts, sizes, pointers, source.len(), align);
-    if said.refusal != 0 {
-        return said;
+    let sound = sound_in(head, starts, sizes, pointers);
+    let got = allocate_placed(&sound, source.len(), align);
+    make_in_parts(head, starts, sizes, pointers, got.change);
+    let said = Said::from(got.answer);
+    if let Ok(offset) = got.answer {
+        copy_from(region, offset, source);
     }
-    copy_from(region, said.offset, source);
     said
 }
 

@@ -5,11 +5,11 @@ ghost use Rattle.calls.specs.Grow.{grow_of, grow_zeroed_bytes};
 ghost use Rattle.host.specs.Said.{said_given};
 ghost use Rattle.fast.specs.Parts.{head_of, parts_of};
 
-use crate::grow::miravoly_sound_grow;
-use crate::parts::lent_in;
+use crate::parts::{lent_in, make_in_parts, sound_in};
 use calls::bytes::fill;
 use calls::refusals::lent_answer;
 use host::Said;
+use reshape::grow::grow_placed;
 
 #[unsafe(no_mangle)]
 pub extern "C" fn miravoly_sound_grow_zeroed(
@@ -29,13 +29,13 @@ pub extern "C" fn miravoly_sound_grow_zeroed(
     ensures pointers_after { parts_of head.new starts.new sizes.new pointers.new ≡ (grow_of (parts_of head.old starts.old sizes.old pointers.old) (length region.old) offset old old_align new new_align).arena }
     ensures region_after { region.new ≡ grow_zeroed_bytes (parts_of head.old starts.old sizes.old pointers.old) region.old offset old old_align new new_align }
 {
-    let said = miravoly_sound_grow(
-        head, starts, sizes, pointers, region, offset, old, old_align, new, new_align,
-    );
-    if said.refusal != 0 {
-        return said;
+    let sound = sound_in(head, starts, sizes, pointers);
+    let got = grow_placed(&sound, region, offset, old, old_align, new, new_align);
+    make_in_parts(head, starts, sizes, pointers, got.change);
+    let said = Said::from(got.answer);
+    if let Ok(to) = got.answer {
+        fill(region, to + old, new - old, 0);
     }
-    fill(region, said.offset + old, new - old, 0);
     said
 }
 

@@ -1,23 +1,33 @@
 -- `fast::fill::miravoly_sound_fill` meets its contract: the block that was given lies in the region. Assumes nothing.
 use Prim.Native.Nat.{ℕ}
+use mathlib.Core.Path.{sym, ap, ◌∙◌}
 use lib.ListN.{replicate}
-use Rattle.calls.specs.Bytes.{written}
+use Rattle.arena.specs.declared.Arena.{Arena}
+use Rattle.arena.specs.Refusals.{Allocation}
+use Rattle.calls.specs.Allocate.{allocate_of}
+use Rattle.calls.specs.Bytes.{written, after_given}
 use Rattle.calls.specs.Write.{fill_bytes}
 use Rattle.calls.proofs.Allocated.{allocated-inside}
-use Rattle.fast.proofs.InParts.{said-served, served-bytes, unserved-bytes}
+use Rattle.calls.proofs.Answering.{bytes-shown}
+use Rattle.fast.proofs.InParts.{answered-in-parts}
 use Rattle.fast.proofs.fill.miravoly_sound_fill.Goals as goal
 
-pub returns-then-said-ne0-clause-region_after : goal.returns-then-said-ne0-clause-region_after
-unfolding fill_bytes
-returns-then-said-ne0-clause-region_after c =
-    let s = c.args in
-    rw c.requires.1 (unserved-bytes _ (λ (at : ℕ). written s.region.now at (replicate s.size s.value)) s.region.now c.miravoly_sound_allocate-said.ensures.value c.if-said-ne0.true)
-
 pub fill-requires : goal.fill-requires
-fill-requires c = rw c.requires.1 (allocated-inside _ _ _ _ (said-served _ c.miravoly_sound_allocate-said.ensures.value c.if-said-ne0.false))
-
-pub returns-clause-region_after : goal.returns-clause-region_after
-unfolding fill_bytes
-returns-clause-region_after c =
+fill-requires c =
     let s = c.args in
-    rw (c.requires.1, c.fill.ensures) (served-bytes _ (λ (at : ℕ). written s.region.now at (replicate s.size s.value)) s.region.now c.miravoly_sound_allocate-said.ensures.value c.if-said-ne0.false)
+    let whole = answered-in-parts c.sound_in-sound.ensures (λ (a : Arena). allocate_of a a.head.region s.size s.align) _ c.allocate_placed-got.ensures in
+    rw c.requires.1 (allocated-inside _ _ _ _ (sym (ap (λ (o : Allocation). o.answer) whole) ∙ c.in-Ok.is))
+
+pub returns-in-Ok-clause-region_after : goal.returns-in-Ok-clause-region_after
+unfolding fill_bytes after_given
+returns-in-Ok-clause-region_after c =
+    let s = c.args in
+    let whole = answered-in-parts c.sound_in-sound.ensures (λ (a : Arena). allocate_of a a.head.region s.size s.align) _ c.allocate_placed-got.ensures in
+    rw (c.requires.1, c.fill.ensures) (bytes-shown (λ (at : ℕ). written s.region.now at (replicate s.size s.value)) s.region.now whole c.in-Ok.is)
+
+pub returns-in_default-clause-region_after : goal.returns-in_default-clause-region_after
+unfolding fill_bytes after_given
+returns-in_default-clause-region_after c =
+    let s = c.args in
+    let whole = answered-in-parts c.sound_in-sound.ensures (λ (a : Arena). allocate_of a a.head.region s.size s.align) _ c.allocate_placed-got.ensures in
+    rw c.requires.1 (bytes-shown (λ (at : ℕ). written s.region.now at (replicate s.size s.value)) s.region.now whole c.in_default.is)
