@@ -125,7 +125,7 @@ impl Store {
         match step {
             Step::Record => show_record(out, &self.arena)?,
             Step::Bytes(from, to) => show_bytes(out, self, from, to)?,
-            _ => step.change(&mut after),
+            _ => {}
         }
         Ok(after)
     }

@@ -6,6 +6,7 @@ use std::fmt;
 use trial::number::{offset_of, refusal_of};
 use trial::row::Plant;
 
+// The numbers have no names, so that a case is a line.
 #[derive(Clone, Copy)]
 pub enum Step {
     // Region, minimum, capacity.
@@ -174,7 +175,7 @@ impl Step {
         )
     }
 
-    // None where it is no call.
+    // What it answers, where it is a call. What is none changes the store alone, or nothing.
     pub fn run(self, s: &mut Store) -> Option<Answered> {
         let a = s.arena;
         match self {
@@ -224,20 +225,31 @@ impl Step {
             Step::Reset => Some(done(a.reset(), s)),
             Step::Limit(n) => Some(done(a.set_allocation_limit(n), s)),
             Step::NoLimit => Some(done(a.no_allocation_limit(), s)),
-            _ => None,
-        }
-    }
-
-    // Changes the store where no call does.
-    pub fn change(self, s: &mut Store) {
-        match self {
-            Step::Lent(n) => s.lent = n,
-            Step::Overcounted => s.arena.head.count = 33,
-            Step::Littered => s.arena.pointers[31] = 16,
-            Step::ManyChunks => s.arena = with_many_chunks(s),
-            Step::Plant(plant) => s.planted = Some(Planted::After(plant)),
-            Step::PlantBeforeTheWrite => s.planted = Some(Planted::BeforeTheWrite),
-            _ => {}
+            Step::Record | Step::Bytes(..) => None,
+            Step::Lent(n) => {
+                s.lent = n;
+                None
+            }
+            Step::Overcounted => {
+                s.arena.head.count = 33;
+                None
+            }
+            Step::Littered => {
+                s.arena.pointers[31] = 16;
+                None
+            }
+            Step::ManyChunks => {
+                s.arena = with_many_chunks(s);
+                None
+            }
+            Step::Plant(plant) => {
+                s.planted = Some(Planted::After(plant));
+                None
+            }
+            Step::PlantBeforeTheWrite => {
+                s.planted = Some(Planted::BeforeTheWrite);
+                None
+            }
         }
     }
 }
