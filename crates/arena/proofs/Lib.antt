@@ -1,5 +1,5 @@
-pub mod Cases
 pub mod Changing
+pub mod Current
 pub mod Emptied
 pub mod Lowest
 pub mod Made

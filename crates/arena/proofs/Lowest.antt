@@ -6,7 +6,7 @@ use native.Mathlib.Omega.{arith}
 use mathlib.Core.Bool.{true}
 use mathlib.Core.List.{List}
 use mathlib.Core.Logic.{◌⊎◌, inl, inr, ⊎_elim}
-use mathlib.Core.Option.{Option, none, some}
+use Rattle.std.specs.Prelude.{Option, None, Some}
 use mathlib.Core.Path.{◌≡◌, refl, ◌∙◌, ap}
 use lib.Dec.{leb}
 use borrow.Author.Tests.{leb-true, le-leb}
@@ -67,13 +67,13 @@ module _ (region : ℕ) (cs : List Chunk) (n : ℕ) {a : ℕ} (positive : 0 < a)
   abbrev choice : ℕ → Option ℕ
   choice k = only (fits region cs n (k * a)) (k * a)
 
-  passed_over : {x : ℕ} → a ∣ x → choice (x / a) ≡ none → Fits region cs n x → ⊥
+  passed_over : {x : ℕ} → a ∣ x → choice (x / a) ≡ None → Fits region cs n x → ⊥
   passed_over {x} d e f =
       let same = div-mul_cancel a d in
       true-false (rw same (fits-shut f)) (only-failed (fits region cs n (x / a * a)) (x / a * a) e)
 
-  found : {at : ℕ} → lowest_place region cs a n ≡ some at →
-      (k : ℕ) × (fits region cs n (k * a) ≡ true) × (k * a ≡ at) × ((j : ℕ) → j < k → choice j ≡ none)
+  found : {at : ℕ} → lowest_place region cs a n ≡ Some at →
+      (k : ℕ) × (fits region cs n (k * a) ≡ true) × (k * a ≡ at) × ((j : ℕ) → j < k → choice j ≡ None)
   unfolding lowest_place
   found h =
       let here = first-at (suc (region / a)) choice h in
@@ -82,12 +82,12 @@ module _ (region : ℕ) (cs : List Chunk) (n : ℕ) {a : ℕ} (positive : 0 < a)
       (k, fitting, same, here.before)
 
   -- where a place is found, it fits and no lower one does
-  pub lowest-fits : {at : ℕ} → lowest_place region cs a n ≡ some at → (a ∣ at) × Fits region cs n at
+  pub lowest-fits : {at : ℕ} → lowest_place region cs a n ≡ Some at → (a ∣ at) × Fits region cs n at
   lowest-fits h =
       let (k, fitting, same, before) = found h in
       rw (← same) (dvd-mul_left a k, fits-open region cs n (k * a) fitting)
 
-  pub lowest-least : {at x : ℕ} → lowest_place region cs a n ≡ some at → a ∣ x → Fits region cs n x → at ≤ x
+  pub lowest-least : {at x : ℕ} → lowest_place region cs a n ≡ Some at → a ∣ x → Fits region cs n x → at ≤ x
   lowest-least {at} {x} h d f =
       let (k, fitting, same, before) = found h in
       let not_lower : ¬ (x / a < k) = λ l. passed_over d (before (x / a) l) f in
@@ -95,7 +95,7 @@ module _ (region : ℕ) (cs : List Chunk) (n : ℕ) {a : ℕ} (positive : 0 < a)
       omega (arith, mul-le-mul_right a not-above, div-mul_cancel a d)
 
   -- where none is found, none fits
-  pub lowest-none : {x : ℕ} → lowest_place region cs a n ≡ none → a ∣ x → Fits region cs n x → ⊥
+  pub lowest-none : {x : ℕ} → lowest_place region cs a n ≡ None → a ∣ x → Fits region cs n x → ⊥
   unfolding lowest_place
   lowest-none {x} h d f =
       let below : x / a ≤ region / a = (le-div_iff_mul-le positive).1 (omega (arith, div-mul_cancel a d, f.inside)) in
@@ -103,20 +103,20 @@ module _ (region : ℕ) (cs : List Chunk) (n : ℕ) {a : ℕ} (positive : 0 < a)
 
   -- and so the answer is settled
   pub lowest-is : {at : ℕ} → a ∣ at → Fits region cs n at → ((x : ℕ) → a ∣ x → Fits region cs n x → at ≤ x) →
-      lowest_place region cs a n ≡ some at
+      lowest_place region cs a n ≡ Some at
   lowest-is {at} d f least = go (lowest_place region cs a n) refl
     where
-      go : (o : Option ℕ) → lowest_place region cs a n ≡ o → lowest_place region cs a n ≡ some at
-      go none e = absurd (lowest-none e d f)
-      go (some y) e =
+      go : (o : Option ℕ) → lowest_place region cs a n ≡ o → lowest_place region cs a n ≡ Some at
+      go None e = absurd (lowest-none e d f)
+      go (Some y) e =
           let (multiple, fitting) = lowest-fits e in
-          e ∙ ap some (le_antisymm (lowest-least e d f) (least y multiple fitting))
+          e ∙ ap Some (le_antisymm (lowest-least e d f) (least y multiple fitting))
 
-  pub none-lowest : ((x : ℕ) → a ∣ x → Fits region cs n x → ⊥) → lowest_place region cs a n ≡ none
+  pub none-lowest : ((x : ℕ) → a ∣ x → Fits region cs n x → ⊥) → lowest_place region cs a n ≡ None
   none-lowest never = go (lowest_place region cs a n) refl
     where
-      go : (o : Option ℕ) → lowest_place region cs a n ≡ o → lowest_place region cs a n ≡ none
-      go none e = e
-      go (some y) e =
+      go : (o : Option ℕ) → lowest_place region cs a n ≡ o → lowest_place region cs a n ≡ None
+      go None e = e
+      go (Some y) e =
           let (multiple, fitting) = lowest-fits e in
           absurd (never y multiple fitting)

@@ -2,12 +2,12 @@
 use Prim.Native.Nat.{ℕ, ◌≤◌, ◌<◌}
 use mathlib.Core.Bool.{true, false}
 use mathlib.Core.List.{[], ◌∷◌}
-use mathlib.Core.Option.{Option, none, some, map}
+use Rattle.std.specs.Prelude.{Option, None, Some, option_map}
 use mathlib.Core.Path.{◌≡◌, refl, ◌∙◌, ap}
 use borrow.Author.Tests.{lt-ltb, le-ltb, ne_eqb}
 use Rattle.rounding.proofs.Tests.{true-not, false-not}
 use Rattle.arena.specs.declared.Chunk.{Chunk}
-use Rattle.arena.specs.declared.Answer.TheVariants.{Done}
+use Rattle.std.specs.Prelude.{Ok, Err}
 use Rattle.arena.specs.declared.Refusal.{Refusal}
 use Rattle.arena.specs.declared.Refusal.TheVariants.{Region, Size, Align, Room}
 use Rattle.arena.specs.Numbers.{most, default_size}
@@ -47,21 +47,21 @@ module _ (region minimum capacity : ℕ) where
     unfolding creation
     not-refused-made = by-refusal (none-applies _ (le-ltb most region r, (le-ltb most capacity l, (true-not m, tt))))
 
-    pub made-empty : capacity ≡ 0 → created_of region minimum capacity ≡ record { answer = Done; arena = holding (fresh_head region minimum) [] }
+    pub made-empty : capacity ≡ 0 → created_of region minimum capacity ≡ record { answer = Ok tt; arena = holding (fresh_head region minimum) [] }
     unfolding created_with first_chunks
     made-empty e = rw (not-refused-made, e)
 
     module _ (some-capacity : capacity ≡ 0 → ⊥) where
       by-rung : {o : Option Chunk} → rung_chunk (fresh_head region minimum) [] capacity minimum default_size ≡ o →
-          created_of region minimum capacity ≡ created_with (fresh_head region minimum) (map (λ c. c ∷ []) o)
+          created_of region minimum capacity ≡ created_with (fresh_head region minimum) (option_map (λ c. c ∷ []) o)
       unfolding first_chunks
       by-rung e = not-refused-made ∙ ap (created_with (fresh_head region minimum)) (rw (ne_eqb capacity 0 some-capacity, e))
 
-      pub made-no-room : rung_chunk (fresh_head region minimum) [] capacity minimum default_size ≡ none → created_of region minimum capacity ≡ refused_creation Room
+      pub made-no-room : rung_chunk (fresh_head region minimum) [] capacity minimum default_size ≡ None → created_of region minimum capacity ≡ refused_creation Room
       unfolding created_with
       made-no-room e = by-rung e
 
-      pub made_one : {c : Chunk} → rung_chunk (fresh_head region minimum) [] capacity minimum default_size ≡ some c →
-          created_of region minimum capacity ≡ record { answer = Done; arena = holding (fresh_head region minimum) (c ∷ []) }
+      pub made_one : {c : Chunk} → rung_chunk (fresh_head region minimum) [] capacity minimum default_size ≡ Some c →
+          created_of region minimum capacity ≡ record { answer = Ok tt; arena = holding (fresh_head region minimum) (c ∷ []) }
       unfolding created_with
       made_one e = by-rung e

@@ -6,21 +6,22 @@ use native.Mathlib.Omega.{arith}
 use mathlib.Core.Bool.{Bool, true, false}
 use lib.Dec.{ltb}
 use mathlib.Core.List.{List, [], ◌∷◌}
-use mathlib.Core.Option.{none, some, none-ne-some, some-injective}
+use Rattle.std.specs.Prelude.{None, Some}
+use Rattle.std.proofs.lemmas.Option.{none-some, same_Some}
 use mathlib.Core.Path.{◌≡◌, refl, sym, ◌∙◌, ap}
 use borrow.Author.Tests.{ltb-true}
 use Rattle.rounding.specs.Every.{Each}
 use Rattle.rounding.proofs.Every.{every_map}
 use Rattle.rounding.proofs.Tests.{and_left, and_right, true-not, false-not}
 use Rattle.arena.specs.declared.Arena.{Arena}
-use Rattle.arena.specs.declared.Answer.TheVariants.{Done, Refused}
+use Rattle.std.specs.Prelude.{Ok, Err}
 use Rattle.arena.specs.declared.Refusal.{Refusal}
 use Rattle.arena.specs.declared.Refusal.TheVariants.{State}
 use Rattle.arena.specs.Refusals.{number_of, Test, refused_by, in_order, answered}
 use Rattle.arena.specs.Sound.{sound_of, state_test}
 
 -- the head of the list and its rest
-pub refused-now : (t : Test) (ts : List Test) → t.applies ≡ true → refused_by (t ∷ ts) ≡ some t.refusal
+pub refused-now : (t : Test) (ts : List Test) → t.applies ≡ true → refused_by (t ∷ ts) ≡ Some t.refusal
 unfolding refused_by
 refused-now t ts e = rw e
 
@@ -29,17 +30,17 @@ unfolding refused_by
 refused-later t ts e = rw e
 
 -- nothing is refused where no test applies
-pub none-applies : (ts : List Test) → Each (λ t. t.applies ≡ false) ts → refused_by ts ≡ none
+pub none-applies : (ts : List Test) → Each (λ t. t.applies ≡ false) ts → refused_by ts ≡ None
 unfolding refused_by
 none-applies [] h = refl
 none-applies (t ∷ ts) h = refused-later t ts h.0 ∙ none-applies ts h.1
 
-pub not-refused : (ts : List Test) → refused_by ts ≡ none → Each (λ t. t.applies ≡ false) ts
+pub not-refused : (ts : List Test) → refused_by ts ≡ None → Each (λ t. t.applies ≡ false) ts
 not-refused [] e = tt
 not-refused (t ∷ ts) e = go t.applies refl (not-refused ts)
   where
-    go : (b : Bool) → t.applies ≡ b → (refused_by ts ≡ none → Each (λ u. u.applies ≡ false) ts) → Each (λ u. u.applies ≡ false) (t ∷ ts)
-    go true a rest = absurd (none-ne-some t.refusal (sym e ∙ refused-now t ts a))
+    go : (b : Bool) → t.applies ≡ b → (refused_by ts ≡ None → Each (λ u. u.applies ≡ false) ts) → Each (λ u. u.applies ≡ false) (t ∷ ts)
+    go true a rest = absurd (none-some t.refusal (sym e ∙ refused-now t ts a))
     go false a rest = (a, rest (sym (refused-later t ts a) ∙ e))
 
 -- "If several apply, the lowest number is answered": r applies, and no test with a lower number does
@@ -71,14 +72,14 @@ applies-among : (P : ℕ → Type 0) {r : Refusal} {ts : List Test} → Applies 
 applies-among P (here e a) h = rw (← e) h.0
 applies-among P (further a) h = applies-among P a h.1
 
-pub answered-lowest : (ts : List Test) {r : Refusal} → in_order ts ≡ true → refused_by ts ≡ some r → Lowest ts r
+pub answered-lowest : (ts : List Test) {r : Refusal} → in_order ts ≡ true → refused_by ts ≡ Some r → Lowest ts r
 unfolding refused_by
-answered-lowest [] {r} o e = absurd (none-ne-some r e)
+answered-lowest [] {r} o e = absurd (none-some r e)
 answered-lowest (t ∷ ts) {r} o e = go t.applies refl (answered-lowest ts (rest-in-order t ts o))
   where
-    go : (b : Bool) → t.applies ≡ b → (refused_by ts ≡ some r → Lowest ts r) → Lowest (t ∷ ts) r
+    go : (b : Bool) → t.applies ≡ b → (refused_by ts ≡ Some r → Lowest ts r) → Lowest (t ∷ ts) r
     go true a rest =
-        let same = some-injective t.refusal r (sym (refused-now t ts a) ∙ e) in
+        let same = same_Some t.refusal r (sym (refused-now t ts a) ∙ e) in
         let number : number_of t.refusal ≡ number_of r = ap number_of same in
         record {
           applies = here same a;
@@ -88,22 +89,22 @@ answered-lowest (t ∷ ts) {r} o e = go t.applies refl (answered-lowest ts (rest
         let found = rest (sym (refused-later t ts a) ∙ e) in
         record { applies = further found.applies; lower = (λ l. a, found.lower) }
 
-pub lowest-answered : (ts : List Test) {r : Refusal} → in_order ts ≡ true → Lowest ts r → refused_by ts ≡ some r
+pub lowest-answered : (ts : List Test) {r : Refusal} → in_order ts ≡ true → Lowest ts r → refused_by ts ≡ Some r
 lowest-answered ts {r} o l = go ts o l.applies l.lower
   where
-    go : (us : List Test) → in_order us ≡ true → Applies r us → Each (λ t. number_of t.refusal < number_of r → t.applies ≡ false) us → refused_by us ≡ some r
+    go : (us : List Test) → in_order us ≡ true → Applies r us → Each (λ t. number_of t.refusal < number_of r → t.applies ≡ false) us → refused_by us ≡ Some r
     go [] p a lower = elim a [ ]
-    go (t ∷ us) p (here e a) lower = refused-now t us a ∙ ap some e
+    go (t ∷ us) p (here e a) lower = refused-now t us a ∙ ap Some e
     go (t ∷ us) p (further a) lower =
         let larger = applies-among (λ n. number_of t.refusal < n) a (later-larger t us p) in
         refused-later t us (lower.0 larger) ∙ go us (rest-in-order t us p) a lower.1
 
 -- the calls that refuse only an unsound record
 module _ (a changed : Arena) where
-  pub unsound-refused : sound_of a ≡ false → answered (refused_by (state_test a ∷ [])) a changed ≡ record { answer = Refused State; arena = a }
+  pub unsound-refused : sound_of a ≡ false → answered (refused_by (state_test a ∷ [])) a changed ≡ record { answer = Err State; arena = a }
   unfolding answered
   unsound-refused e = ap (λ r. answered r a changed) (refused-now (state_test a) [] (false-not e))
 
-  pub sound-done : sound_of a ≡ true → answered (refused_by (state_test a ∷ [])) a changed ≡ record { answer = Done; arena = changed }
+  pub sound-done : sound_of a ≡ true → answered (refused_by (state_test a ∷ [])) a changed ≡ record { answer = Ok tt; arena = changed }
   unfolding answered refused_by
   sound-done e = ap (λ r. answered r a changed) (refused-later (state_test a) [] (true-not e))

@@ -7,8 +7,9 @@ use native.Mathlib.Omega.{arith}
 use mathlib.Core.Bool.{true, false, cond, and-false}
 use mathlib.Core.List.{List, [], ◌∷◌}
 use mathlib.Core.Logic.{◌⊎◌, inl, inr, ⊎_elim}
-use mathlib.Core.Option.{Option, none, some, none-ne-some, map}
-use mathlib.Core.Path.{◌≡◌, refl, sym, ◌∙◌, ap}
+use Rattle.std.specs.Prelude.{Option, None, Some, option_map}
+use Rattle.std.proofs.lemmas.Option.{none-some}
+use mathlib.Core.Path.{◌≡◌, refl, sym, subst, ◌∙◌, ap}
 use lib.Dec.{leb, ltb}
 use lib.ListN.{length, get_or}
 use lib.Arith.{lt_of_le-ne}
@@ -25,6 +26,7 @@ use Rattle.arena.specs.Placing.{lowest_place}
 use Rattle.arena.specs.Sizing.{place_align, usable}
 use Rattle.arena.specs.Numbers.{default_size, most, places}
 use Rattle.arena.specs.Record.{past_of, chunks_of}
+use Rattle.arena.proofs.Current.{Current}
 
 -- the held bytes of one more place; each chunk that stands in the region adds no more than its length
 pub held_more : (starts sizes pointers : List ℕ) (i : ℕ) →
@@ -40,18 +42,18 @@ held-bound region (c ∷ cs) inside =
     let here : c.size ≤ region = omega (arith, inside.0) in
     rw suc-mul (omega arith)
 
--- the first base with no chunk, and with a last place
-pub first-base-none : (starts sizes pointers : List ℕ) {k : ℕ} (size : ℕ) → k ≡ 0 → first_base (chunks_of starts sizes pointers k) size ≡ floor_of size
-unfolding first_base current_size chunks_of
-first-base-none starts sizes pointers size e = rw e (zero-max (floor_of size))
+-- the first base with no chunk, and with a current one
+pub first-base-none : (cs : List Chunk) (size : ℕ) → cs ≡ [] → first_base cs size ≡ floor_of size
+unfolding first_base current_size
+first-base-none cs size e = rw e (zero-max (floor_of size))
 
-pub first-base-last : (starts sizes pointers : List ℕ) (k size : ℕ) → 0 < k →
-    first_base (chunks_of starts sizes pointers k) size ≡ max (2 * get_or sizes (k - 1) 0) (floor_of size)
-unfolding first_base current_size chunks_of
-first-base-last starts sizes pointers zero size l = absurd (omega arith)
-first-base-last starts sizes pointers (suc k) size l =
-    let last : suc k - 1 ≡ k = omega arith in
-    rw last
+pub first-base-current : (cs : List Chunk) (size : ℕ) {c : Chunk} → Current cs c → first_base cs size ≡ max (2 * c.size) (floor_of size)
+unfolding first_base current_size
+first-base-current cs size now = rw now.newest
+
+-- the current chunk is no longer than the region that the held ones stand in
+pub current-within : {region : ℕ} (cs : List Chunk) {c : Chunk} → Each (λ d. past_of d ≤ region) cs → Current cs c → past_of c ≤ region
+current-within {region} cs inside now = (subst (Each (λ d. past_of d ≤ region)) now.newest inside).0
 
 pub first-base-bound : {region size : ℕ} (cs : List Chunk) → Each (λ c. past_of c ≤ region) cs → region ≤ most → size ≤ most → first_base cs size ≤ 2 ^ 31
 unfolding first_base current_size
@@ -139,16 +141,16 @@ halved-out base h l = div-eq_of_lt (lt_of_lt_of_le h (pow_mono l))
 
 -- what a rung gives: nothing past the limit or with the table full, else a chunk at the lowest place
 module _ (h : Head) (cs : List Chunk) (size align base : ℕ) {held n : ℕ} (counted : held ≡ held_bytes cs) (sized : n ≡ usable base size align) where
-  pub rung-over-limit : under_limit h held n ≡ false → rung_chunk h cs size align base ≡ none
+  pub rung-over-limit : under_limit h held n ≡ false → rung_chunk h cs size align base ≡ None
   unfolding rung_chunk served_with
   rung-over-limit t = rw (← counted, ← sized, t)
 
-  pub rung-table-full : places ≤ length cs → rung_chunk h cs size align base ≡ none
+  pub rung-table-full : places ≤ length cs → rung_chunk h cs size align base ≡ None
   unfolding rung_chunk served_with
   rung-table-full l = rw (le-ltb (length cs) places l, and-false (under_limit h (held_bytes cs) (usable base size align)))
 
   pub rung-placed : {a : ℕ} → a ≡ place_align align → under_limit h held n ≡ true → length cs < places →
-      rung_chunk h cs size align base ≡ map (new_chunk n) (lowest_place h.region cs a n)
+      rung_chunk h cs size align base ≡ option_map (new_chunk n) (lowest_place h.region cs a n)
   unfolding rung_chunk served_with
   rung-placed e t l = rw (e, ← counted, ← sized, t, lt-ltb (length cs) places l)
 
@@ -156,7 +158,7 @@ module _ (h : Head) (cs : List Chunk) (size align base : ℕ) {held n : ℕ} (co
 pub record ServedRung (h : Head) (cs : List Chunk) (size align : ℕ) (c : Chunk) : Type 0 where
   pub base : ℕ
   pub rung : Rung h cs size base
-  pub gives : rung_chunk h cs size align base ≡ some c
+  pub gives : rung_chunk h cs size align base ≡ Some c
 
 module _ (h : Head) (cs : List Chunk) (size align : ℕ) where
   -- what the ladder looks at after k halvings
@@ -164,23 +166,23 @@ module _ (h : Head) (cs : List Chunk) (size align : ℕ) where
   rung_after k =
       cond (tried h (held_bytes cs) size (base_after (first_base cs size) k))
       (rung_chunk h cs size align (base_after (first_base cs size) k))
-      none
+      None
 
   pub rung-looked-at : {base : ℕ} (r : Rung h cs size base) → rung_after r.halvings ≡ rung_chunk h cs size align base
   rung-looked-at {base} r = rw (← r.from_first, r.is_tried)
 
-  pub not-tried-nothing : (k : ℕ) → tried h (held_bytes cs) size (base_after (first_base cs size) k) ≡ false → rung_after k ≡ none
+  pub not-tried-nothing : (k : ℕ) → tried h (held_bytes cs) size (base_after (first_base cs size) k) ≡ false → rung_after k ≡ None
   not-tried-nothing k t = rw t
 
   -- the ladder gives nothing exactly where no rung is served
-  pub no-rung-served : first_base cs size < 2 ^ 63 → ladder h cs size align ≡ none → (base : ℕ) → Rung h cs size base → rung_chunk h cs size align base ≡ none
+  pub no-rung-served : first_base cs size < 2 ^ 63 → ladder h cs size align ≡ None → (base : ℕ) → Rung h cs size base → rung_chunk h cs size align base ≡ None
   unfolding ladder
   no-rung-served small e base r = go (dec_lt r.halvings 64)
     where
-      within : (s : Rung h cs size base) → s.halvings < 64 → rung_chunk h cs size align base ≡ none
+      within : (s : Rung h cs size base) → s.halvings < 64 → rung_chunk h cs size align base ≡ None
       within s l = sym (rung-looked-at s) ∙ first-none 64 rung_after e s.halvings l
 
-      go : Dec (r.halvings < 64) → rung_chunk h cs size align base ≡ none
+      go : Dec (r.halvings < 64) → rung_chunk h cs size align base ≡ None
       go (yes l) = within r l
       go (no g) =
           let far : 63 ≤ r.halvings = omega arith in
@@ -193,19 +195,19 @@ module _ (h : Head) (cs : List Chunk) (size align : ℕ) where
           })
           (omega arith)
 
-  pub ladder-nothing : ((base : ℕ) → Rung h cs size base → rung_chunk h cs size align base ≡ none) → ladder h cs size align ≡ none
+  pub ladder-nothing : ((base : ℕ) → Rung h cs size base → rung_chunk h cs size align base ≡ None) → ladder h cs size align ≡ None
   unfolding ladder
   ladder-nothing refused = none_first 64 rung_after (λ k l. ⊎_elim (looked k) (not-tried-nothing k) (decided _))
     where
-      looked : (k : ℕ) → tried h (held_bytes cs) size (base_after (first_base cs size) k) ≡ true → rung_after k ≡ none
+      looked : (k : ℕ) → tried h (held_bytes cs) size (base_after (first_base cs size) k) ≡ true → rung_after k ≡ None
       looked k t =
           let r : Rung h cs size (base_after (first_base cs size) k) = record { halvings = k; from_first = refl; is_tried = t } in
           rung-looked-at r ∙ refused _ r
 
   -- what it gives is the chunk of a rung that is served
-  pub ladder-served : {c : Chunk} → ladder h cs size align ≡ some c → ServedRung h cs size align c
+  pub ladder-served : {c : Chunk} → ladder h cs size align ≡ Some c → ServedRung h cs size align c
   unfolding ladder
-  ladder-served {c} e = ⊎_elim served (λ t. absurd (none-ne-some c (sym (not-tried-nothing k t) ∙ found.here))) (decided _)
+  ladder-served {c} e = ⊎_elim served (λ t. absurd (none-some c (sym (not-tried-nothing k t) ∙ found.here))) (decided _)
     where
       found : FirstAt 64 rung_after c
       found = first-at 64 rung_after e
@@ -223,7 +225,7 @@ pub record Climbed (h : Head) (cs : List Chunk) (size align base : ℕ) : Type 0
   pub halvings : ℕ
   pub within : halvings < 64
   pub here : base ≡ base_after (first_base cs size) halvings
-  pub before : (j : ℕ) → j < halvings → rung_after h cs size align j ≡ none
+  pub before : (j : ℕ) → j < halvings → rung_after h cs size align j ≡ None
 
 module _ (h : Head) (cs : List Chunk) (size align : ℕ) where
   pub climb-starts : Climbed h cs size align (first_base cs size)
@@ -237,34 +239,34 @@ module _ (h : Head) (cs : List Chunk) (size align : ℕ) where
     pub climb-bound : base ≤ first_base cs size
     climb-bound = rw climbed.here (shr_le (first_base cs size) climbed.halvings)
 
-    pub climb-served : {c : Chunk} → tried h (held_bytes cs) size base ≡ true → rung_chunk h cs size align base ≡ some c → ladder h cs size align ≡ some c
+    pub climb-served : {c : Chunk} → tried h (held_bytes cs) size base ≡ true → rung_chunk h cs size align base ≡ Some c → ladder h cs size align ≡ Some c
     unfolding ladder
     climb-served t e =
         at_first 64 climbed.halvings (rung_after h cs size align) climbed.within (rung-looked-at h cs size align (as-rung t) ∙ e) climbed.before
 
     -- nothing here and nothing further down is nothing at all
-    ends : ((j : ℕ) → climbed.halvings ≤ j → rung_after h cs size align j ≡ none) → ladder h cs size align ≡ none
+    ends : ((j : ℕ) → climbed.halvings ≤ j → rung_after h cs size align j ≡ None) → ladder h cs size align ≡ None
     unfolding ladder
     ends further = none_first 64 (rung_after h cs size align) (λ j l. go j (dec_lt j climbed.halvings))
       where
-        go : (j : ℕ) → Dec (j < climbed.halvings) → rung_after h cs size align j ≡ none
+        go : (j : ℕ) → Dec (j < climbed.halvings) → rung_after h cs size align j ≡ None
         go j (yes l) = climbed.before j l
         go j (no g) = further j (omega arith)
 
     further-down : (j : ℕ) → climbed.halvings ≤ j → base_after (first_base cs size) j ≤ base
     further-down j l = rw climbed.here (halved-less (first_base cs size) l)
 
-    pub climb-out : tried h (held_bytes cs) size base ≡ false → ladder h cs size align ≡ none
+    pub climb-out : tried h (held_bytes cs) size base ≡ false → ladder h cs size align ≡ None
     climb-out t =
         ends (λ j l. not-tried-nothing h cs size align j (refute _ (λ s. true-false (tried-larger h (held_bytes cs) size (further-down j l) s) t)))
 
-    pub climb-ends : base ≡ 0 → tried h (held_bytes cs) size base ≡ true → rung_chunk h cs size align base ≡ none → ladder h cs size align ≡ none
+    pub climb-ends : base ≡ 0 → tried h (held_bytes cs) size base ≡ true → rung_chunk h cs size align base ≡ None → ladder h cs size align ≡ None
     climb-ends zeroed t e =
         ends (λ j l.
         let same : base ≡ base_after (first_base cs size) j = omega (arith, further-down j l) in
         rung-looked-at h cs size align (record { halvings = j; from_first = same; is_tried = t }) ∙ e)
 
-    pub climb-on : first_base cs size < 2 ^ 63 → (base ≡ 0 → ⊥) → tried h (held_bytes cs) size base ≡ true → rung_chunk h cs size align base ≡ none →
+    pub climb-on : first_base cs size < 2 ^ 63 → (base ≡ 0 → ⊥) → tried h (held_bytes cs) size base ≡ true → rung_chunk h cs size align base ≡ None →
         Climbed h cs size align (base / 2)
     climb-on small some_left t e =
         let k = climbed.halvings in
@@ -274,5 +276,5 @@ module _ (h : Head) (cs : List Chunk) (size align : ℕ) where
           halvings = k + 1;
           within = omega (arith, climbed.within, lt_of_le-ne {i = k} {k = 63} (omega (arith, climbed.within)) not_last);
           here = half;
-          before = below_more (λ j. rung_after h cs size align j ≡ none) k climbed.before (rung-looked-at h cs size align (as-rung t) ∙ e);
+          before = below_more (λ j. rung_after h cs size align j ≡ None) k climbed.before (rung-looked-at h cs size align (as-rung t) ∙ e);
         }

@@ -6,7 +6,8 @@ use native.Mathlib.Omega.{arith}
 use mathlib.Core.Bool.{Bool, true, false, cond, ◌&&◌}
 use mathlib.Core.List.{List}
 use mathlib.Core.Logic.{inl, inr, ⊎_elim}
-use mathlib.Core.Option.{none, some, map, map-eq-some_iff}
+use Rattle.std.specs.Prelude.{None, Some, option_map}
+use Rattle.rounding.proofs.Optional.{mapped_some}
 use mathlib.Core.Path.{◌≡◌, refl, sym, subst}
 use lib.Dec.{ltb}
 use lib.ListN.{length}
@@ -29,21 +30,21 @@ use Rattle.arena.proofs.Standing.{Fresh}
 pub record ServedAt (h : Head) (cs : List Chunk) (a n : ℕ) (c : Chunk) : Type 0 where
   pub place-free : length cs < places
   pub under-limit : under_limit h (held_bytes cs) n ≡ true
-  pub placed : lowest_place h.region cs a n ≡ some c.start
+  pub placed : lowest_place h.region cs a n ≡ Some c.start
   pub size_is : c.size ≡ n
   pub at-end : c.pointer ≡ end_of c
 
 module _ (h : Head) (cs : List Chunk) (a n : ℕ) where
-  pub served-open : {c : Chunk} → served_with h cs a n ≡ some c → ServedAt h cs a n c
+  pub served-open : {c : Chunk} → served_with h cs a n ≡ Some c → ServedAt h cs a n c
   unfolding served_with
   served-open {c} e = go (under_limit h (held_bytes cs) n) refl (ltb (length cs) places) refl e
     where
       go : (t : Bool) → under_limit h (held_bytes cs) n ≡ t → (u : Bool) → ltb (length cs) places ≡ u →
-          cond (t && u) (map (new_chunk n) (lowest_place h.region cs a n)) none ≡ some c → ServedAt h cs a n c
+          cond (t && u) (option_map (new_chunk n) (lowest_place h.region cs a n)) None ≡ Some c → ServedAt h cs a n c
       go false p u q r = absurd (let z : ◌≡◌ {A = ℕ} 0 1 = cc in omega arith)
       go true p false q r = absurd (let z : ◌≡◌ {A = ℕ} 0 1 = cc in omega arith)
       go true p true q r =
-          let found = (map-eq-some_iff (new_chunk n) (lowest_place h.region cs a n)).0 r in
+          let found = mapped_some (new_chunk n) (lowest_place h.region cs a n) r in
           subst (ServedAt h cs a n) found.2
           (record {
             place-free = ltb-true (length cs) places q;
@@ -54,14 +55,14 @@ module _ (h : Head) (cs : List Chunk) (a n : ℕ) where
           })
 
 module _ (h : Head) (cs : List Chunk) (size : ℕ) {align : ℕ} (base : ℕ) (power : Power align) where
-  pub rung-open : {c : Chunk} → rung_chunk h cs size align base ≡ some c → ServedAt h cs (place_align align) (usable base size align) c
+  pub rung-open : {c : Chunk} → rung_chunk h cs size align base ≡ Some c → ServedAt h cs (place_align align) (usable base size align) c
   unfolding rung_chunk
   rung-open e = served-open h cs (place_align align) (usable base size align) e
 
-  pub rung-placed : {c : Chunk} → rung_chunk h cs size align base ≡ some c → place_align align ∣ c.start
+  pub rung-placed : {c : Chunk} → rung_chunk h cs size align base ≡ Some c → place_align align ∣ c.start
   rung-placed {c} e = (lowest-fits h.region cs (usable base size align) (place-align-positive align) (rung-open e).placed).0
 
-  pub rung-fresh : {c : Chunk} → rung_chunk h cs size align base ≡ some c → Fresh h cs c
+  pub rung-fresh : {c : Chunk} → rung_chunk h cs size align base ≡ Some c → Fresh h cs c
   rung-fresh {c} e =
       let served = rung-open e in
       let fitting = (lowest-fits h.region cs (usable base size align) (place-align-positive align) served.placed).1 in
@@ -75,7 +76,7 @@ module _ (h : Head) (cs : List Chunk) (size : ℕ) {align : ℕ} (base : ℕ) (p
       }
 
   -- below its end, rounded down to the alignment, the needed bytes stand at or above its start
-  pub rung-room : {c : Chunk} {minimum : ℕ} → rung_chunk h cs size align base ≡ some c → Power minimum → minimum ≤ largest_minimum →
+  pub rung-room : {c : Chunk} {minimum : ℕ} → rung_chunk h cs size align base ≡ Some c → Power minimum → minimum ≤ largest_minimum →
       c.start + round_up size (max align minimum) ≤ round_down c.pointer align
   rung-room {c} {minimum} e pm l =
       let served = rung-open e in

@@ -3,14 +3,14 @@ use Prim.Native.Nat.{ℕ}
 use native.Mathlib.Omega.{arith}
 use mathlib.Core.Bool.{Bool, true, false, cond}
 use mathlib.Core.List.{List, [], ◌∷◌}
-use mathlib.Core.Option.{Option, none, some, map}
+use Rattle.std.specs.Prelude.{Option, None, Some, option_map}
 use mathlib.Core.Path.{◌≡◌, refl, subst}
 use lib.Dec.{eqb}
 use borrow.Author.Tests.{ltb-false, not-false}
 use Rattle.arena.specs.declared.Head.{Head}
 use Rattle.arena.specs.declared.Arena.{Arena}
 use Rattle.arena.specs.declared.Chunk.{Chunk}
-use Rattle.arena.specs.declared.Answer.TheVariants.{Done}
+use Rattle.std.specs.Prelude.{Ok, Err}
 use Rattle.arena.specs.declared.Refusal.{Refusal}
 use Rattle.arena.specs.Numbers.{most, default_size}
 use Rattle.arena.specs.Record.{held_of, holding}
@@ -25,7 +25,7 @@ use Rattle.arena.proofs.Standing.{Standing, sound-standing, standing-sound, stan
 use Rattle.arena.proofs.Served.{rung-fresh}
 
 -- no chunk at all
-empty-standing : (region minimum capacity : ℕ) → refused_by (creation_tests region minimum capacity) ≡ none → Standing (fresh_head region minimum) []
+empty-standing : (region minimum capacity : ℕ) → refused_by (creation_tests region minimum capacity) ≡ None → Standing (fresh_head region minimum) []
 unfolding limit_formed
 empty-standing region minimum capacity e =
     let passed = not-refused (creation_tests region minimum capacity) e in
@@ -43,15 +43,15 @@ empty-standing region minimum capacity e =
       apart = tt;
     }
 
-first-standing : (h : Head) (capacity : ℕ) → Standing h [] → {cs : List Chunk} → first_chunks h capacity ≡ some cs → Standing h cs
+first-standing : (h : Head) (capacity : ℕ) → Standing h [] → {cs : List Chunk} → first_chunks h capacity ≡ Some cs → Standing h cs
 unfolding first_chunks
 first-standing h capacity s {cs} e = go (eqb capacity 0) (rung_chunk h [] capacity h.minimum default_size) refl e
   where
     go : (b : Bool) (o : Option Chunk) → rung_chunk h [] capacity h.minimum default_size ≡ o →
-        cond b (some []) (map (λ c. c ∷ []) o) ≡ some cs → Standing h cs
+        cond b (Some []) (option_map (λ c. c ∷ []) o) ≡ Some cs → Standing h cs
     go true o p q = let same : [] ≡ cs = cc in subst (Standing h) same s
-    go false none p q = absurd (let z : ◌≡◌ {A = ℕ} 0 1 = cc in omega arith)
-    go false (some c) p q =
+    go false None p q = absurd (let z : ◌≡◌ {A = ℕ} 0 1 = cc in omega arith)
+    go false (Some c) p q =
         let same : c ∷ [] ≡ cs = cc in
         subst (Standing h) same (standing-pushed s (rung-fresh h [] capacity default_size s.settings.minimum-power p))
 
@@ -64,18 +64,18 @@ pub record Started (region minimum : ℕ) (a : Arena) : Type 0 where
 module _ (region minimum capacity : ℕ) where
   made : (r : Option Refusal) → refused_by (creation_tests region minimum capacity) ≡ r →
       (o : Option (List Chunk)) → first_chunks (fresh_head region minimum) capacity ≡ o →
-      (creation r (fresh_head region minimum) capacity).answer ≡ Done → Started region minimum (creation r (fresh_head region minimum) capacity).arena
+      (creation r (fresh_head region minimum) capacity).answer ≡ Ok tt → Started region minimum (creation r (fresh_head region minimum) capacity).arena
   unfolding creation created_with refused_creation
-  made (some x) p o q d = absurd (let z : ◌≡◌ {A = ℕ} 0 1 = cc in omega arith)
-  made none p none q d = absurd (let z : ◌≡◌ {A = ℕ} 0 1 = cc (q, d) in omega arith)
-  made none p (some cs) q d =
+  made (Some x) p o q d = absurd (let z : ◌≡◌ {A = ℕ} 0 1 = cc in omega arith)
+  made None p None q d = absurd (let z : ◌≡◌ {A = ℕ} 0 1 = cc (q, d) in omega arith)
+  made None p (Some cs) q d =
       record {
         chunks = cs;
         holds = rw q;
         standing = first-standing (fresh_head region minimum) capacity (empty-standing region minimum capacity p) q;
       }
 
-  pub created-started : (created_of region minimum capacity).answer ≡ Done → Started region minimum (created_of region minimum capacity).arena
+  pub created-started : (created_of region minimum capacity).answer ≡ Ok tt → Started region minimum (created_of region minimum capacity).arena
   unfolding created_of
   created-started d =
       made (refused_by (creation_tests region minimum capacity)) refl (first_chunks (fresh_head region minimum) capacity) refl d
@@ -108,8 +108,8 @@ module _ (a : Arena) where
 
   answered-sound : sound_of a ≡ true → (r : Option Refusal) (changed : Arena) → sound_of changed ≡ true → sound_of (answered r a changed).arena ≡ true
   unfolding answered
-  answered-sound sound (some r) changed h = sound
-  answered-sound sound none changed h = h
+  answered-sound sound (Some r) changed h = sound
+  answered-sound sound None changed h = h
 
   pub set-limit-sound : (limit : ℕ) → sound_of a ≡ true → sound_of (set_limit_of a limit).arena ≡ true
   unfolding set_limit_of limit_formed

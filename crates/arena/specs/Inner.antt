@@ -1,22 +1,18 @@
 -- What the contracts between our own functions say. Nothing of document 01 is decided here, and no function that a user calls cites it.
-use Rattle.std.specs.Prelude.{ℕ, ◌≤◌, ◌<◌, ◌≡◌, Bool, true, false, ◌&&◌, cond, List, [], ◌∷◌, leb}
+use Rattle.std.specs.Prelude.{ℕ, ◌≤◌, ◌<◌, ◌≡◌, Bool, true, false, ◌&&◌, cond, List, [], ◌∷◌, leb, Option, None, Some}
 use Rattle.std.specs.Int.{◌∣◌}
-use Rattle.std.proofs.Math.Option.{Option, none, some}
 use Rattle.rounding.specs.Every.{every, Each}
 use Rattle.arena.specs.declared.Head.{Head}
 use Rattle.arena.specs.declared.Arena.{Arena}
 use Rattle.arena.specs.declared.Chunk.{Chunk}
-use Rattle.arena.specs.declared.placing.Place.{Place}
-use Rattle.arena.specs.declared.placing.Place.TheVariants.{At, Nowhere}
-use Rattle.arena.specs.declared.ladder.NewChunk.{NewChunk}
-use Rattle.arena.specs.declared.ladder.NewChunk.TheVariants.{Taken, Nothing}
+use Rattle.arena.specs.declared.lent.Lent.{Lent}
 use Rattle.arena.specs.declared.change.Change.{Change}
 use Rattle.arena.specs.declared.change.Change.TheVariants.{Same, Moved, Added, Limited, Kept}
 use Rattle.arena.specs.Numbers.{places, most}
-use Rattle.arena.specs.Record.{past_of, with_pointer, held_of, holding}
+use Rattle.arena.specs.Record.{past_of, with_pointer, record_of, held_of, holding}
 use Rattle.arena.specs.Sound.{chunk_sound}
 use Rattle.arena.specs.Placing.{misses}
-use Rattle.arena.specs.Creation.{limited_to, kept_by_reset}
+use Rattle.arena.specs.Creation.{kept_by_reset}
 
 -- what the rules that take a new chunk lean on: the region is no longer than allowed, the table no fuller, and every held chunk stands in the
 -- region with its 48
@@ -25,27 +21,31 @@ pub record Ready (h : Head) (cs : List Chunk) : Type 0 where
   pub count_bound : h.count ≤ places
   pub inside : Each (λ c. past_of c ≤ h.region) cs
 
--- the answer's case: an offset, or nowhere
-unfoldable pub place_of : Option ℕ → Place
-place_of (some at) = At at
-place_of none = Nowhere
+-- the record that is lent in these parts
+abbrev pub lent_of : Lent → Arena
+lent_of l = record_of l.head l.starts.now l.sizes.now l.pointers.now
 
--- the answer's case: a chunk, or nothing
-unfoldable pub new_chunk_of : Option Chunk → NewChunk
-new_chunk_of (some c) = Taken c
-new_chunk_of none = Nothing
+-- the current chunk, if any is held
+unfoldable pub current_of : List Chunk → Option Chunk
+current_of [] = None
+current_of (c ∷ cs) = Some c
 
 -- the held chunks with the current pointer elsewhere
 unfoldable pub moved_to : List Chunk → ℕ → List Chunk
 moved_to [] p = []
 moved_to (c ∷ cs) p = with_pointer c p ∷ cs
 
+-- under a limit, or under none
+unfoldable pub limited_by : Head → Option ℕ → Head
+limited_by h None = record { region = h.region; minimum = h.minimum; limited = 0; limit = 0; count = h.count }
+limited_by h (Some limit) = record { region = h.region; minimum = h.minimum; limited = 1; limit = limit; count = h.count }
+
 -- a sound record once a change is made; no chunk is added to a full table
 unfoldable pub changed_by : Change → Arena → Arena
 changed_by Same a = a
 changed_by (Moved p) a = holding a.head (moved_to (held_of a) p)
 changed_by (Added c) a = cond (leb places a.head.count) a (holding a.head (c ∷ held_of a))
-changed_by (Limited limited limit) a = limited_to a limited limit
+changed_by (Limited limit) a = record_of (limited_by a.head limit) a.starts a.sizes a.pointers
 changed_by Kept a = holding a.head (kept_by_reset (held_of a))
 
 -- what going once through the table from an offset comes to: a multiple at or past it, none between them free of the chunks, and the offset

@@ -1,6 +1,5 @@
 -- Document 01, "Ladder": the bases that are tried for a new chunk, and the first that is served.
-use Rattle.std.specs.Prelude.{ℕ, ◌+◌, ◌-◌, ◌*◌, ◌/◌, ◌^◌, max, ◌≡◌, Bool, true, ◌&&◌, ◌||◌, not, cond, List, [], ◌∷◌, length, leb, ltb, eqb}
-use Rattle.std.proofs.Math.Option.{Option, none, map}
+use Rattle.std.specs.Prelude.{ℕ, ◌+◌, ◌-◌, ◌*◌, ◌/◌, ◌^◌, max, ◌≡◌, Bool, true, ◌&&◌, ◌||◌, not, cond, List, [], ◌∷◌, length, leb, ltb, eqb, Option, None, option_map}
 use Rattle.rounding.specs.First.{first}
 use Rattle.arena.specs.declared.Head.{Head}
 use Rattle.arena.specs.declared.Chunk.{Chunk}
@@ -54,8 +53,8 @@ new_chunk n at = record { start = at; size = n; pointer = at + n }
 unfoldable pub served_with : Head → List Chunk → ℕ → ℕ → Option Chunk
 served_with h cs a n =
     cond (under_limit h (held_bytes cs) n && ltb (length cs) places)
-    (map (new_chunk n) (lowest_place h.region cs a n))
-    none
+    (option_map (new_chunk n) (lowest_place h.region cs a n))
+    None
 
 -- the chunk that a rung gives, where it is served
 unfoldable pub rung_chunk : Head → List Chunk → ℕ → ℕ → ℕ → Option Chunk
@@ -68,7 +67,7 @@ ladder h cs size align =
     (λ k.
     cond (tried h (held_bytes cs) size (base_after (first_base cs size) k))
     (rung_chunk h cs size align (base_after (first_base cs size) k))
-    none)
+    None)
 
 -- a rung of the ladder, declared: a base that some number of halvings of the first base comes to, and that is tried
 pub record Rung (h : Head) (cs : List Chunk) (size base : ℕ) : Type 0 where

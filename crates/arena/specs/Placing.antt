@@ -1,6 +1,5 @@
 -- Document 01, "Placing": the lowest offset that is a multiple of a, with n + 48 bytes in the region meeting no held chunk.
-use Rattle.std.specs.Prelude.{ℕ, suc, ◌+◌, ◌*◌, ◌/◌, Bool, ◌&&◌, ◌||◌, List, leb}
-use Rattle.std.proofs.Math.Option.{Option}
+use Rattle.std.specs.Prelude.{ℕ, suc, ◌+◌, ◌*◌, ◌/◌, Bool, ◌&&◌, ◌||◌, List, leb, Option}
 use Rattle.rounding.specs.Every.{every}
 use Rattle.rounding.specs.First.{only, first}
 use Rattle.arena.specs.declared.Chunk.{Chunk}

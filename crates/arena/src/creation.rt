@@ -5,23 +5,16 @@ ghost use Rattle.arena.specs.Record.{held_of, holding};
 ghost use Rattle.arena.specs.Sound.{sound_of};
 ghost use Rattle.arena.specs.Creation.{refused_creation, created_of};
 
-use crate::ladder::{NewChunk, take_rung};
+use crate::ladder::take_rung;
 use crate::sound::is_allowed_minimum;
-use crate::{Answer, Arena, Chunk, Head, Outcome, Refusal};
+use crate::{Arena, Chunk, Head, Outcome, Refusal};
 
 // The record of this head with no chunk.
 pub fn emptied(h: Head) -> Arena
     ensures { result ≡ holding h [] }
 {
-    let head = Head {
-        region: h.region,
-        minimum: h.minimum,
-        limited: h.limited,
-        limit: h.limit,
-        count: 0,
-    };
     Arena {
-        head: head,
+        head: Head { count: 0, ..h },
         starts: [0; 32],
         sizes: [0; 32],
         pointers: [0; 32],
@@ -42,7 +35,7 @@ pub fn with_chunk(a: Arena, c: Chunk) -> Arena
     out
 }
 
-fn refused_creation(r: Refusal) -> Outcome
+fn refused_creation(r: Refusal) -> Outcome<()>
     ensures { result ≡ refused_creation r }
 {
     let none = emptied(Head {
@@ -53,14 +46,14 @@ fn refused_creation(r: Refusal) -> Outcome
         count: 0,
     });
     Outcome {
-        answer: Answer::Refused(r),
+        answer: Err(r),
         arena: none,
     }
 }
 
 impl Arena {
     // The region is told by its length: creation reads none of its bytes and writes none.
-    pub fn with_min_align_and_capacity(region: usize, minimum: usize, capacity: usize) -> Outcome
+    pub fn with_min_align_and_capacity(region: usize, minimum: usize, capacity: usize) -> Outcome<()>
         ensures { result ≡ created_of region minimum capacity }
     {
         if Arena::MOST < region {
@@ -73,8 +66,8 @@ impl Arena {
             return refused_creation(Refusal::Align);
         }
         let head = Head {
-            region: region,
-            minimum: minimum,
+            region,
+            minimum,
             limited: 0,
             limit: 0,
             count: 0,
@@ -82,27 +75,17 @@ impl Arena {
         let fresh = emptied(head);
         if capacity == 0 {
             return Outcome {
-                answer: Answer::Done,
+                answer: Ok(()),
                 arena: fresh,
             };
         }
-        let got = take_rung(
-            head,
-            &fresh.starts,
-            &fresh.sizes,
-            &fresh.pointers,
-            0,
-            capacity,
-            minimum,
-            Arena::DEFAULT_SIZE,
-        );
-        let NewChunk::Taken(c) = got else {
+        let got = take_rung(&fresh.lent(), 0, capacity, minimum, Arena::DEFAULT_SIZE);
+        let Some(c) = got else {
             return refused_creation(Refusal::Room);
         };
-        let held = with_chunk(fresh, c);
         Outcome {
-            answer: Answer::Done,
-            arena: held,
+            answer: Ok(()),
+            arena: with_chunk(fresh, c),
         }
     }
 }

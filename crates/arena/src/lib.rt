@@ -4,12 +4,15 @@
 pub mod change;
 pub mod creation;
 pub mod ladder;
+pub mod lent;
 mod limit;
 pub mod placing;
 pub mod reset;
 pub mod sizing;
 pub mod sound;
-pub mod table;
+
+ghost use Rattle.std.specs.Prelude.{◌≡◌, ◌≤◌};
+ghost use Rattle.arena.specs.Refusals.{number_of};
 
 // Everything of the record but its table. The limit is two numbers, so that no limit has one form: both zero.
 #[repr(C)]
@@ -41,29 +44,45 @@ pub struct Chunk {
     pub pointer: usize,
 }
 
-// Document 01's refusals; the definition number_of has their numbers.
-#[derive(Clone, Copy)]
+// Document 01's refusals, and their numbers.
+#[derive(Clone, Copy, Debug, PartialEq, Eq)]
 pub enum Refusal {
-    State,
-    Region,
-    Size,
-    Align,
-    Block,
-    Direction,
-    Token,
-    Room,
+    State = 1,
+    Region = 2,
+    Size = 3,
+    Align = 4,
+    Block = 5,
+    Direction = 6,
+    Token = 7,
+    Room = 8,
 }
 
-#[derive(Clone, Copy)]
-pub enum Answer {
-    Done,
-    Refused(Refusal),
+impl Refusal {
+    pub fn number(self) -> usize
+        ensures value { result ≡ number_of self }
+        ensures bound { result ≤ 8 }
+    {
+        self as usize
+    }
 }
 
+// What a call answers, and the record after it.
 #[derive(Clone, Copy)]
-pub struct Outcome {
-    pub answer: Answer,
+pub struct Outcome<T> {
+    pub answer: Result<T, Refusal>,
     pub arena: Arena,
+}
+
+impl<T> Outcome<T> {
+    // The record goes back as it came.
+    pub fn refused(arena: Arena, r: Refusal) -> Self
+        ensures { result ≡ record { answer = Err r; arena = arena } }
+    {
+        Outcome {
+            answer: Err(r),
+            arena,
+        }
+    }
 }
 
 impl Arena {

@@ -2,40 +2,19 @@
 ghost use Rattle.std.specs.Prelude.{◌≡◌};
 ghost use Rattle.arena.specs.Creation.{set_limit_of, no_limit_of};
 
-use crate::change::{Change, changed};
-use crate::sound::is_sound;
-use crate::{Answer, Arena, Outcome, Refusal};
+use crate::change::Change;
+use crate::{Arena, Outcome};
 
 impl Arena {
-    pub fn set_allocation_limit(self, limit: usize) -> Outcome
+    pub fn set_allocation_limit(self, limit: usize) -> Outcome<()>
         ensures { result ≡ set_limit_of self limit }
     {
-        if !is_sound(self.head, &self.starts, &self.sizes, &self.pointers) {
-            return Outcome {
-                answer: Answer::Refused(Refusal::State),
-                arena: self,
-            };
-        }
-        let changed = changed(self, Change::Limited(1, limit));
-        Outcome {
-            answer: Answer::Done,
-            arena: changed,
-        }
+        self.changed_if_sound(Change::Limited(Some(limit)))
     }
 
-    pub fn no_allocation_limit(self) -> Outcome
+    pub fn no_allocation_limit(self) -> Outcome<()>
         ensures { result ≡ no_limit_of self }
     {
-        if !is_sound(self.head, &self.starts, &self.sizes, &self.pointers) {
-            return Outcome {
-                answer: Answer::Refused(Refusal::State),
-                arena: self,
-            };
-        }
-        let changed = changed(self, Change::Limited(0, 0));
-        Outcome {
-            answer: Answer::Done,
-            arena: changed,
-        }
+        self.changed_if_sound(Change::Limited(None))
     }
 }

@@ -2,18 +2,12 @@
 ghost use Rattle.std.specs.Prelude.{◌≡◌, true, ◌+◌, ◌<◌, ◌≤◌, ◌^◌};
 ghost use Rattle.std.specs.Int.{◌∣◌};
 ghost use Rattle.arena.specs.Numbers.{largest_align};
-ghost use Rattle.arena.specs.Record.{past_of, chunks_of};
+ghost use Rattle.arena.specs.Record.{past_of, held_of};
 ghost use Rattle.arena.specs.Placing.{misses, lowest_place};
-ghost use Rattle.arena.specs.Inner.{Ready, Passed, place_of};
+ghost use Rattle.arena.specs.Inner.{lent_of, Ready, Passed};
 
-use crate::table::chunk_at;
-use crate::{Arena, Chunk, Head};
-
-#[derive(Clone, Copy)]
-pub enum Place {
-    At(usize),
-    Nowhere,
-}
+use crate::lent::Lent;
+use crate::{Arena, Chunk};
 
 fn is_clear_of(at: usize, length: usize, c: Chunk) -> bool
     requires { (at + length < 2 ^ 64) × (past_of c < 2 ^ 64) }
@@ -26,23 +20,15 @@ fn is_clear_of(at: usize, length: usize, c: Chunk) -> bool
 }
 
 // Goes once through the table and passes each chunk that stands in the way of length bytes.
-fn past_chunks<'a>(
-    h: Head,
-    starts: &'a [usize; 32],
-    sizes: &'a [usize; 32],
-    pointers: &'a [usize; 32],
-    align: usize,
-    length: usize,
-    from: usize,
-) -> usize
-    requires ready { Ready h (chunks_of starts.now sizes.now pointers.now h.count) }
-    requires align_nonzero { (0 < align) × (align ≤ largest_align) × (align ∣ from) × (from ≤ h.region) × (length ≤ h.region) }
-    ensures { Passed (chunks_of starts.now sizes.now pointers.now h.count) align length from result }
+fn past_chunks(a: &Lent, align: usize, length: usize, from: usize) -> usize
+    requires ready { Ready a.now.head (held_of (lent_of a.now)) }
+    requires align_nonzero { (0 < align) × (align ≤ largest_align) × (align ∣ from) × (from ≤ a.now.head.region) × (length ≤ a.now.head.region) }
+    ensures { Passed (held_of (lent_of a.now)) align length from result }
 {
-    let count = h.count;
+    let count = a.head.count;
     let mut at = from;
     for i in 0..count {
-        let c = chunk_at(starts, sizes, pointers, i);
+        let c = a.chunk_at(i);
         if !is_clear_of(at, length, c) {
             at = rounding::round_up_to(c.start + c.size + Arena::FOOTER, align);
         }
@@ -50,31 +36,24 @@ fn past_chunks<'a>(
     at
 }
 
-pub fn lowest_place<'a>(
-    h: Head,
-    starts: &'a [usize; 32],
-    sizes: &'a [usize; 32],
-    pointers: &'a [usize; 32],
-    align: usize,
-    n: usize,
-) -> Place
-    requires ready { Ready h (chunks_of starts.now sizes.now pointers.now h.count) }
+pub fn lowest_place(a: &Lent, align: usize, n: usize) -> Option<usize>
+    requires ready { Ready a.now.head (held_of (lent_of a.now)) }
     requires align_nonzero { (0 < align) × (align ≤ largest_align) × (n < 2 ^ 63) }
-    ensures { result ≡ place_of (lowest_place h.region (chunks_of starts.now sizes.now pointers.now h.count) align n) }
+    ensures { result ≡ lowest_place a.now.head.region (held_of (lent_of a.now)) align n }
 {
-    let region = h.region;
+    let region = a.head.region;
     let length = n + Arena::FOOTER;
     if region < length {
-        return Place::Nowhere;
+        return None;
     }
     let last = region - length;
     let mut at = 0;
     while at <= last {
-        let next = past_chunks(h, starts, sizes, pointers, align, length, at);
+        let next = past_chunks(a, align, length, at);
         if next == at {
-            return Place::At(at);
+            return Some(at);
         }
         at = next;
     }
-    Place::Nowhere
+    None
 }

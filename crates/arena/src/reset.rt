@@ -1,12 +1,11 @@
 // Reset: only the current chunk is kept, as if nothing had been given out.
 ghost use Rattle.std.specs.Prelude.{◌≡◌, true};
-ghost use Rattle.arena.specs.Record.{record_of, chunks_of, held_of, holding};
+ghost use Rattle.arena.specs.Record.{record_of, chunks_of, holding};
 ghost use Rattle.arena.specs.Sound.{sound_of};
 ghost use Rattle.arena.specs.Creation.{kept_by_reset, reset_of};
 
-use crate::change::{Change, changed};
-use crate::sound::is_sound;
-use crate::{Answer, Arena, Head, Outcome, Refusal};
+use crate::change::Change;
+use crate::{Arena, Head, Outcome};
 
 // In place, on a sound record that is lent in parts; answers its head.
 pub fn keep_current(
@@ -36,37 +35,13 @@ pub fn keep_current(
     starts[0] = start;
     sizes[0] = size;
     pointers[0] = start + size;
-    Head {
-        region: h.region,
-        minimum: h.minimum,
-        limited: h.limited,
-        limit: h.limit,
-        count: 1,
-    }
-}
-
-// The same of a record by value.
-pub fn kept_by_reset(a: Arena) -> Arena
-    requires { sound_of a ≡ true }
-    ensures { result ≡ holding a.head (kept_by_reset (held_of a)) }
-{
-    changed(a, Change::Kept)
+    Head { count: 1, ..h }
 }
 
 impl Arena {
-    pub fn reset(self) -> Outcome
+    pub fn reset(self) -> Outcome<()>
         ensures { result ≡ reset_of self }
     {
-        if !is_sound(self.head, &self.starts, &self.sizes, &self.pointers) {
-            return Outcome {
-                answer: Answer::Refused(Refusal::State),
-                arena: self,
-            };
-        }
-        let kept = kept_by_reset(self);
-        Outcome {
-            answer: Answer::Done,
-            arena: kept,
-        }
+        self.changed_if_sound(Change::Kept)
     }
 }

@@ -1,17 +1,12 @@
 // The usable size of a chunk, from a base and a request (`new_chunk_memory_details` in the Rust).
-ghost use Rattle.std.specs.Prelude.{◌≡◌, true, max, ◌≤◌, ◌^◌};
+ghost use Rattle.std.specs.Prelude.{◌≡◌, true, ◌≤◌, ◌^◌};
 ghost use Rattle.arena.specs.Numbers.{most};
 ghost use Rattle.arena.specs.Sound.{allowed_align};
 ghost use Rattle.arena.specs.Sizing.{usable_for, usable};
 
 use crate::Arena;
 
-pub fn larger(a: usize, b: usize) -> usize
-    ensures { result ≡ max a b }
-{
-    if a < b { b } else { a }
-}
-
+#[tactic(auto, unfolding(crate::specs::Sizing::usable_for))]
 fn usable_for(m: usize) -> usize
     requires { m ≤ 2 ^ 32 }
     ensures { result ≡ usable_for m }
@@ -22,10 +17,11 @@ fn usable_for(m: usize) -> usize
     rounding::round_up_to(m + Arena::OVERHEAD, Arena::PAGE) - Arena::OVERHEAD
 }
 
+#[tactic(auto, unfolding(crate::specs::Sizing::usable, crate::specs::Sizing::wanted, crate::specs::Sound::allowed_align))]
 pub fn usable_size(base: usize, size: usize, align: usize) -> usize
     requires { (base ≤ 2 ^ 31) × (size ≤ most) × (allowed_align align ≡ true) }
     ensures { result ≡ usable base size align }
 {
-    let rounded = rounding::round_up_to(size, larger(Arena::STEP, align));
-    usable_for(larger(base, rounded))
+    let rounded = rounding::round_up_to(size, Arena::STEP.max(align));
+    usable_for(base.max(rounded))
 }

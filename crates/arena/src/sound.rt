@@ -1,9 +1,9 @@
 // Whether a record is sound. Any 64-bit numbers may stand in it, so nothing is added here before it has been tested.
-ghost use Rattle.std.specs.Prelude.{◌≡◌, true, ◌&&◌, ◌+◌, ◌<◌, ◌≤◌, ◌^◌, eqb};
+ghost use Rattle.std.specs.Prelude.{◌≡◌, IfSome, IfNone, Bool, true, false, ◌&&◌, ◌+◌, ◌<◌, ◌≤◌, ◌^◌};
 ghost use Rattle.rounding.specs.Every.{every};
 ghost use Rattle.rounding.specs.Round.{one_bit};
 ghost use Rattle.arena.specs.Numbers.{places};
-ghost use Rattle.arena.specs.Record.{past_of, chunk_at, chunks_of, record_of};
+ghost use Rattle.arena.specs.Record.{past_of, chunk_at, chunks_of, held_of};
 ghost use Rattle.arena.specs.Sound.{
   allowed_align,
   allowed_minimum,
@@ -12,12 +12,11 @@ ghost use Rattle.arena.specs.Sound.{
   chunk_sound,
   clear,
   apart,
-  unused_zero,
   sound_of,
 };
-ghost use Rattle.arena.specs.Inner.{Ready, ascending};
+ghost use Rattle.arena.specs.Inner.{lent_of, current_of, Ready, ascending};
 
-use crate::table::chunk_at;
+use crate::lent::Lent;
 use crate::{Arena, Chunk, Head};
 
 pub fn is_allowed_align(align: usize) -> bool
@@ -89,45 +88,19 @@ fn is_chunk_sound(region: usize, minimum: usize, c: Chunk) -> bool
     c.pointer & (minimum - 1) == 0
 }
 
-// All unused numbers in one: zero where each is. Without an early way out the loop is done several places at a time.
-fn unused_bits<'a>(
-    count: usize,
-    starts: &'a [usize; 32],
-    sizes: &'a [usize; 32],
-    pointers: &'a [usize; 32],
-) -> usize
-    requires { count ≤ places }
-    ensures { eqb result 0 ≡ (unused_zero count starts.now && (unused_zero count sizes.now && unused_zero count pointers.now)) }
-{
-    // As slices the columns bring their lengths into the proof.
-    let starts = &starts[..];
-    let sizes = &sizes[..];
-    let pointers = &pointers[..];
-    let mut bits = 0;
-    for i in count..Arena::PLACES {
-        bits = bits | starts[i] | sizes[i] | pointers[i];
-    }
-    bits
-}
-
 // Chunks mostly ascend, each from past the one taken before it. From the newest down, each is then sound below the start of the one after it, and they are
 // apart without a test of every pair. They need not ascend after a reset, nor where a large alignment left a gap that a later chunk was placed in.
-fn are_ascending<'a>(
-    h: Head,
-    starts: &'a [usize; 32],
-    sizes: &'a [usize; 32],
-    pointers: &'a [usize; 32],
-) -> bool
-    requires { (one_bit h.minimum ≡ true) × (h.count ≤ places) }
-    ensures { result ≡ ascending h.region h.minimum (chunks_of starts.now sizes.now pointers.now h.count) }
+fn are_ascending(a: &Lent) -> bool
+    requires { (one_bit a.now.head.minimum ≡ true) × (a.now.head.count ≤ places) }
+    ensures { result ≡ ascending a.now.head.region a.now.head.minimum (held_of (lent_of a.now)) }
 {
-    let minimum = h.minimum;
+    let h = a.head;
     let mut top = h.region;
     let mut left = h.count;
     while 0 < left {
         left -= 1;
-        let c = chunk_at(starts, sizes, pointers, left);
-        if !is_chunk_sound(top, minimum, c) {
+        let c = a.chunk_at(left);
+        if !is_chunk_sound(top, h.minimum, c) {
             return false;
         }
         top = c.start;
@@ -136,21 +109,14 @@ fn are_ascending<'a>(
 }
 
 // Each by itself, in any order.
-fn are_chunks_sound<'a>(
-    h: Head,
-    starts: &'a [usize; 32],
-    sizes: &'a [usize; 32],
-    pointers: &'a [usize; 32],
-) -> bool
-    requires { (one_bit h.minimum ≡ true) × (h.count ≤ places) }
-    ensures { result ≡ every (chunk_sound h.region h.minimum) (chunks_of starts.now sizes.now pointers.now h.count) }
+fn are_chunks_sound(a: &Lent) -> bool
+    requires { (one_bit a.now.head.minimum ≡ true) × (a.now.head.count ≤ places) }
+    ensures { result ≡ every (chunk_sound a.now.head.region a.now.head.minimum) (held_of (lent_of a.now)) }
 {
-    let region = h.region;
-    let minimum = h.minimum;
-    let count = h.count;
-    for i in 0..count {
-        let c = chunk_at(starts, sizes, pointers, i);
-        if !is_chunk_sound(region, minimum, c) {
+    let h = a.head;
+    for i in 0..h.count {
+        let c = a.chunk_at(i);
+        if !is_chunk_sound(h.region, h.minimum, c) {
             return false;
         }
     }
@@ -168,20 +134,14 @@ fn are_clear(c: Chunk, d: Chunk) -> bool
 }
 
 // Place i and the places before it.
-fn is_clear_of_earlier<'a>(
-    h: Head,
-    starts: &'a [usize; 32],
-    sizes: &'a [usize; 32],
-    pointers: &'a [usize; 32],
-    i: usize,
-) -> bool
-    requires ready { Ready h (chunks_of starts.now sizes.now pointers.now h.count) }
-    requires i_lt_count { i < h.count }
-    ensures { result ≡ every (clear (chunk_at starts.now sizes.now pointers.now i)) (chunks_of starts.now sizes.now pointers.now i) }
+fn is_clear_of_earlier(a: &Lent, i: usize) -> bool
+    requires ready { Ready a.now.head (held_of (lent_of a.now)) }
+    requires i_lt_count { i < a.now.head.count }
+    ensures { result ≡ every (clear (chunk_at a.now.starts.now a.now.sizes.now a.now.pointers.now i)) (chunks_of a.now.starts.now a.now.sizes.now a.now.pointers.now i) }
 {
-    let c = chunk_at(starts, sizes, pointers, i);
+    let c = a.chunk_at(i);
     for j in 0..i {
-        let d = chunk_at(starts, sizes, pointers, j);
+        let d = a.chunk_at(j);
         if !are_clear(c, d) {
             return false;
         }
@@ -189,44 +149,72 @@ fn is_clear_of_earlier<'a>(
     true
 }
 
-fn are_apart<'a>(
-    h: Head,
-    starts: &'a [usize; 32],
-    sizes: &'a [usize; 32],
-    pointers: &'a [usize; 32],
-) -> bool
-    requires { Ready h (chunks_of starts.now sizes.now pointers.now h.count) }
-    ensures { result ≡ apart (chunks_of starts.now sizes.now pointers.now h.count) }
+fn are_apart(a: &Lent) -> bool
+    requires { Ready a.now.head (held_of (lent_of a.now)) }
+    ensures { result ≡ apart (held_of (lent_of a.now)) }
 {
-    let count = h.count;
+    let count = a.head.count;
     for i in 0..count {
-        if !is_clear_of_earlier(h, starts, sizes, pointers, i) {
+        if !is_clear_of_earlier(a, i) {
             return false;
         }
     }
     true
 }
 
-// The whole test, on a record that is lent in parts.
-pub fn is_sound<'a>(
-    h: Head,
-    starts: &'a [usize; 32],
-    sizes: &'a [usize; 32],
-    pointers: &'a [usize; 32],
-) -> bool
-    ensures { result ≡ sound_of (record_of h starts.now sizes.now pointers.now) }
+// The whole test.
+pub fn is_sound(a: &Lent) -> bool
+    ensures { result ≡ sound_of (lent_of a.now) }
 {
-    if !is_head_sound(h) {
+    if !is_head_sound(a.head) {
         return false;
     }
-    if unused_bits(h.count, starts, sizes, pointers) != 0 {
+    if a.unused_bits() != 0 {
         return false;
     }
-    if are_ascending(h, starts, sizes, pointers) {
+    if are_ascending(a) {
         return true;
     }
-    if !are_chunks_sound(h, starts, sizes, pointers) {
+    if !are_chunks_sound(a) {
         return false;
     }
-    are_apart(h, starts, sizes, pointers)
+    are_apart(a)
+}
+
+// A lent record that is known to be sound.
+#[derive(Clone, Copy)]
+pub struct Sound<'a> {
+    pub lent: Lent<'a>,
+    ghost sound: { sound_of (lent_of lent) ≡ true },
+}
+
+impl<'a> Sound<'a> {
+    // The chunk taken last, if any is held.
+    pub fn current(&self) -> Option<Chunk>
+        ensures { result ≡ current_of (held_of (lent_of self.now.lent)) }
+    {
+        self.lent.current()
+    }
+}
+
+impl<'a> Lent<'a> {
+    // The same record, where it is sound.
+    pub fn sound(self) -> Option<Sound<'a>>
+        ensures unsound { IfNone result (sound_of (lent_of self.entry) ≡ false) }
+        ensures same { IfSome result (λ s. s.lent ≡ self.entry) }
+    {
+        if !is_sound(&self) {
+            return None;
+        }
+        Some(Sound { lent: self })
+    }
+}
+
+impl Arena {
+    pub fn sound(&self) -> Option<Sound<'_>>
+        ensures unsound { IfNone result (sound_of self.now ≡ false) }
+        ensures same { IfSome result (λ s. lent_of s.lent ≡ self.now) }
+    {
+        self.lent().sound()
+    }
 }

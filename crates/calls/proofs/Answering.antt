@@ -1,24 +1,22 @@
 -- What a call that gives out a block answers, by the parts of its tests, and the region's bytes by that answer. Assumes nothing.
 use Prim.Native.Nat.{ℕ}
 use mathlib.Core.List.{List, ◌++◌}
-use mathlib.Core.Option.{Option, none, some}
+use Rattle.std.specs.Prelude.{Option, None, Some}
 use mathlib.Core.Path.{◌≡◌, sym, ◌∙◌, ap}
 use Rattle.arena.specs.declared.Arena.{Arena}
 use Rattle.arena.specs.declared.Refusal.{Refusal}
-use Rattle.arena.specs.Refusals.{Test, refused_by}
-use Rattle.calls.specs.declared.Given.{Given}
-use Rattle.calls.specs.declared.Allocation.{Allocation}
+use Rattle.arena.specs.Refusals.{Test, refused_by, Allocation, Given}
 use Rattle.calls.specs.Allocate.{Taken, given}
 use Rattle.calls.specs.Bytes.{after_given}
 use Rattle.calls.proofs.Testing.{refused-before, passed-before}
 
 -- the first part of the tests refuses; or it refuses nothing, and the rest does
 module _ (a : Arena) (ts us : List Test) (taken : Option Taken) where
-  pub stopped-first : {r : Refusal} → refused_by ts ≡ some r → given (refused_by (ts ++ us)) a taken ≡ given (some r) a none
+  pub stopped-first : {r : Refusal} → refused_by ts ≡ Some r → given (refused_by (ts ++ us)) a taken ≡ given (Some r) a None
   unfolding given
   stopped-first e = ap (λ o. given o a taken) (refused-before ts us e)
 
-  pub stopped-later : {r : Refusal} → refused_by ts ≡ none → refused_by us ≡ some r → given (refused_by (ts ++ us)) a taken ≡ given (some r) a none
+  pub stopped-later : {r : Refusal} → refused_by ts ≡ None → refused_by us ≡ Some r → given (refused_by (ts ++ us)) a taken ≡ given (Some r) a None
   unfolding given
   stopped-later p e = ap (λ o. given o a taken) (passed-before ts us p ∙ e)
 

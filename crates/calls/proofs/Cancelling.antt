@@ -8,7 +8,6 @@ use native.Mathlib.Omega.{arith}
 use borrow.Author.Tests.{eq-eqb, ne_eqb, lt-ltb, le-ltb}
 use Rattle.rounding.specs.Round.{multiple}
 use Rattle.rounding.proofs.Tests.{or_left, true-not, false-not}
-use Rattle.arena.specs.declared.Answer.TheVariants.{Done, Refused}
 use Rattle.arena.specs.declared.Arena.{Arena}
 use Rattle.arena.specs.declared.Chunk.{Chunk}
 use Rattle.arena.specs.declared.Refusal.TheVariants.{State, Token as TOKEN}
@@ -18,8 +17,13 @@ use Rattle.arena.specs.Sound.{sound_of, state_test}
 use Rattle.arena.specs.Inner.{moved_to}
 use Rattle.arena.proofs.Refusing.{refused-now, refused-later, none-applies}
 use Rattle.calls.specs.declared.Token.{Token}
-use Rattle.calls.specs.Token.{off_current, bad_token, rewound, cancel_tests, cancel_of}
+use Rattle.calls.specs.Token.{token_of, off_current, bad_token, rewound, cancel_tests, cancel_of}
 use Rattle.calls.proofs.Rewinding.{rewound-same}
+use Rattle.std.specs.Prelude.{Err, Ok}
+
+-- the token by default is that of a refused allocation
+pub no-token : {token : Token} → (token.count ≡ 0) × (token.pointer ≡ 0) → token ≡ token_of 0 0
+no-token e = λ i. record { count = e.0 i; pointer = e.1 i }
 
 module _ (minimum : ℕ) (cs : List Chunk) (offset : ℕ) (token : Token) where
   -- the counts: above is bad, below is not, and an equal one goes by the current chunk
@@ -81,16 +85,16 @@ module _ (a : Arena) (offset : ℕ) (token : Token) where
   abbrev token_test : Test
   token_test = test TOKEN (bad_token a.head.minimum (held_of a) offset token)
 
-  pub cancel-state : sound_of a ≡ false → cancel_of a offset token ≡ record { answer = Refused State; arena = a }
+  pub cancel-state : sound_of a ≡ false → cancel_of a offset token ≡ record { answer = Err State; arena = a }
   unfolding cancel_of answered
   cancel-state s = ap (λ r. answered r a back) (refused-now (state_test a) (token_test ∷ []) (false-not s))
 
   pub cancel-token : sound_of a ≡ true → bad_token a.head.minimum (held_of a) offset token ≡ true →
-      cancel_of a offset token ≡ record { answer = Refused TOKEN; arena = a }
+      cancel_of a offset token ≡ record { answer = Err TOKEN; arena = a }
   unfolding cancel_of answered
   cancel-token s t = ap (λ r. answered r a back) (refused-later (state_test a) (token_test ∷ []) (true-not s) ∙ refused-now token_test [] t)
 
   pub cancel-works : sound_of a ≡ true → bad_token a.head.minimum (held_of a) offset token ≡ false →
-      cancel_of a offset token ≡ record { answer = Done; arena = back }
+      cancel_of a offset token ≡ record { answer = (Ok tt); arena = back }
   unfolding cancel_of answered
   cancel-works s t = ap (λ r. answered r a back) (none-applies (cancel_tests a offset token) (true-not s, (t, tt)))

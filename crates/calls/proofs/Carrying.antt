@@ -8,8 +8,6 @@ use mathlib.Core.Logic.{⊎_elim}
 use mathlib.Core.Path.{◌≡◌, refl, sym, subst, ◌∙◌}
 use lib.ListN.{length, get_or, replicate, length-replicate}
 use Rattle.arena.specs.declared.Arena.{Arena}
-use Rattle.calls.specs.declared.Given.{Given}
-use Rattle.calls.specs.declared.Given.TheVariants.{At}
 use Rattle.calls.specs.Bytes.{written, carried, after_given}
 use Rattle.calls.specs.Allocate.{Taken, allocate_of}
 use Rattle.calls.specs.Grow.{grow_of, grow_bytes, grow_zeroed_bytes}
@@ -20,6 +18,8 @@ use Rattle.calls.proofs.Writing.{written-elsewhere}
 use Rattle.calls.proofs.Touching.{OnlyIn, only_then, only-written, only-carried, carried-reads, written-reads, cleared-reads}
 use Rattle.calls.proofs.Passing.{grow-passes, shrink-passes}
 use Rattle.calls.proofs.Results.{given-at, Replaced, allocate-result, grow-result, shrink-result, resize-result}
+use Rattle.arena.specs.Refusals.{Given}
+use Rattle.std.specs.Prelude.{Ok}
 
 -- n bytes of the old block at the new place, and only bytes of the new block changed
 pub record Carries (bytes after : List ℕ) (offset to n size : ℕ) : Type 0 where
@@ -52,7 +52,7 @@ carried-over {offset = offset} {new = new} bytes to n whole result there in-old 
         }
 
 module _ (a : Arena) (bytes : List ℕ) (offset old old_align new new_align to : ℕ) where
-  grown : (grow_of a (length bytes) offset old old_align new new_align).answer ≡ At to →
+  grown : (grow_of a (length bytes) offset old old_align new new_align).answer ≡ Ok to →
       (old ≤ new) × Carries bytes (carried bytes offset to old) offset to old new × (to + new ≤ length bytes)
   unfolding grow_of
   grown e =
@@ -61,7 +61,7 @@ module _ (a : Arena) (bytes : List ℕ) (offset old old_align new new_align to :
       let result = grow-result a (length bytes) offset old old_align new new_align found.passed found.gives in
       (up, carried-over bytes to old refl result found.there (le_refl old) up, omega (arith, result.inside, found.there))
 
-  pub grow-carries : (grow_of a (length bytes) offset old old_align new new_align).answer ≡ At to →
+  pub grow-carries : (grow_of a (length bytes) offset old old_align new new_align).answer ≡ Ok to →
       Carries bytes (grow_bytes a bytes offset old old_align new new_align) offset to old new
   unfolding grow_bytes after_given
   grow-carries e =
@@ -72,7 +72,7 @@ module _ (a : Arena) (bytes : List ℕ) (offset old old_align new new_align to :
     pub kept : Carries bytes after offset to old new
     pub zeros : (i : ℕ) → old ≤ i → i < new → get_or after (to + i) 0 ≡ 0
 
-  pub grow-zeroed-carries : (grow_of a (length bytes) offset old old_align new new_align).answer ≡ At to →
+  pub grow-zeroed-carries : (grow_of a (length bytes) offset old old_align new new_align).answer ≡ Ok to →
       Zeroed (grow_zeroed_bytes a bytes offset old old_align new new_align)
   unfolding grow_zeroed_bytes after_given
   grow-zeroed-carries e =
@@ -91,7 +91,7 @@ module _ (a : Arena) (bytes : List ℕ) (offset old old_align new new_align to :
         zeros = λ i l h. cleared-reads over (to + old) (new - old) (omega arith) (to + i) (omega arith) (omega arith);
       })
 
-  pub shrink-carries : (shrink_of a (length bytes) offset old old_align new new_align).answer ≡ At to →
+  pub shrink-carries : (shrink_of a (length bytes) offset old old_align new new_align).answer ≡ Ok to →
       Carries bytes (shrink_bytes a bytes offset old old_align new new_align) offset to new new
   unfolding shrink_of shrink_bytes after_given
   shrink-carries e =
@@ -101,7 +101,7 @@ module _ (a : Arena) (bytes : List ℕ) (offset old old_align new new_align to :
       subst (λ (g : Given). Carries bytes (after_given g (λ at. carried bytes offset at new) bytes) offset to new new) (sym e)
       (carried-over bytes to new refl result found.there down (le_refl new))
 
-pub resize-carries : (a : Arena) (bytes : List ℕ) (offset old align new to : ℕ) → (resize_of a (length bytes) offset old align new).answer ≡ At to →
+pub resize-carries : (a : Arena) (bytes : List ℕ) (offset old align new to : ℕ) → (resize_of a (length bytes) offset old align new).answer ≡ Ok to →
     Carries bytes (resize_bytes a bytes offset old align new) offset to (min old new) new
 unfolding resize_of resize_bytes after_given
 resize-carries a bytes offset old align new to e =
@@ -117,7 +117,7 @@ pub record Copied (bytes after : List ℕ) (to : ℕ) (source : List ℕ) : Type
   pub reads : (i : ℕ) → i < length source → get_or after (to + i) 0 ≡ get_or source i 0
 
 module _ (a : Arena) (bytes : List ℕ) (align to : ℕ) where
-  allocated-inside : (size : ℕ) → (allocate_of a (length bytes) size align).answer ≡ At to → to + size ≤ length bytes
+  allocated-inside : (size : ℕ) → (allocate_of a (length bytes) size align).answer ≡ Ok to → to + size ≤ length bytes
   unfolding allocate_of
   allocated-inside size e =
       let found = given-at a _ _ e in
@@ -131,14 +131,14 @@ module _ (a : Arena) (bytes : List ℕ) (align to : ℕ) where
         reads = written-reads bytes to source room;
       }
 
-  pub copy-in-copies : (source : List ℕ) → (allocate_of a (length bytes) (length source) align).answer ≡ At to →
+  pub copy-in-copies : (source : List ℕ) → (allocate_of a (length bytes) (length source) align).answer ≡ Ok to →
       Copied bytes (copy_in_bytes a bytes source align) to source
   unfolding copy_in_bytes after_given
   copy-in-copies source e =
       subst (λ (g : Given). Copied bytes (after_given g (λ at. written bytes at source) bytes) to source) (sym e)
       (written-copied source (allocated-inside (length source) e))
 
-  pub fill-fills : (size value : ℕ) → (allocate_of a (length bytes) size align).answer ≡ At to →
+  pub fill-fills : (size value : ℕ) → (allocate_of a (length bytes) size align).answer ≡ Ok to →
       Copied bytes (fill_bytes a bytes size align value) to (replicate size value)
   unfolding fill_bytes after_given
   fill-fills size value e =

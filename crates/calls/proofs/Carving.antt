@@ -5,7 +5,8 @@ use native.Mathlib.Nat.{dvd-sub}
 use native.Mathlib.Omega.{arith}
 use mathlib.Core.Bool.{◌&&◌}
 use mathlib.Core.List.{List, ◌∷◌}
-use mathlib.Core.Option.{some, map, map-eq-some_iff}
+use Rattle.std.specs.Prelude.{Some, option_map}
+use Rattle.rounding.proofs.Optional.{mapped_some}
 use mathlib.Core.Path.{◌≡◌, refl, ap, subst}
 use lib.Dec.{leb}
 use borrow.Author.Tests.{leb-true, le-leb}
@@ -26,7 +27,7 @@ pub record Carved (minimum start pointer size align offset : ℕ) : Type 0 where
   pub on-align : align ∣ offset
 
 module _ (minimum : ℕ) (c : Chunk) (size align : ℕ) where
-  pub chunk-carves : Power minimum → Power align → minimum ∣ c.pointer → {p : ℕ} → chunk_gives minimum c size align ≡ some p →
+  pub chunk-carves : Power minimum → Power align → minimum ∣ c.pointer → {p : ℕ} → chunk_gives minimum c size align ≡ Some p →
       Carved minimum c.start c.pointer size align p
   unfolding chunk_gives
   chunk-carves pm pa d {p} e =
@@ -47,7 +48,7 @@ module _ (minimum : ℕ) (c : Chunk) (size align : ℕ) where
 
   -- it gives a block where the needed bytes stand above the start
   pub chunk-gives : c.start + needed minimum size align ≤ round_down c.pointer align →
-      chunk_gives minimum c size align ≡ some (round_down c.pointer align - needed minimum size align)
+      chunk_gives minimum c size align ≡ Some (round_down c.pointer align - needed minimum size align)
   unfolding chunk_gives
   chunk-gives l =
       let r = round_down c.pointer align in
@@ -63,15 +64,15 @@ module _ (minimum : ℕ) (c : Chunk) (cs : List Chunk) (size align : ℕ) where
   taken_at : ℕ → Taken
   taken_at p = record { offset = p; chunks = with_pointer c p ∷ cs }
 
-  pub current-carves : Power minimum → Power align → minimum ∣ c.pointer → {t : Taken} → current_gives minimum (c ∷ cs) size align ≡ some t →
+  pub current-carves : Power minimum → Power align → minimum ∣ c.pointer → {t : Taken} → current_gives minimum (c ∷ cs) size align ≡ Some t →
       TakenFrom minimum c cs size align t
   unfolding current_gives taken_at
   current-carves pm pa d e =
-      let found = (map-eq-some_iff taken_at (chunk_gives minimum c size align)).0 e in
+      let found = mapped_some taken_at (chunk_gives minimum c size align) e in
       subst (TakenFrom minimum c cs size align) found.2
       (record { chunks = refl; carved = chunk-carves minimum c size align pm pa d found.1 })
 
   pub current-gives : c.start + needed minimum size align ≤ round_down c.pointer align →
-      (t : Taken) × (current_gives minimum (c ∷ cs) size align ≡ some t)
+      (t : Taken) × (current_gives minimum (c ∷ cs) size align ≡ Some t)
   unfolding current_gives taken_at
-  current-gives l = (_, ap (map taken_at) (chunk-gives minimum c size align l))
+  current-gives l = (_, ap (option_map taken_at) (chunk-gives minimum c size align l))

@@ -3,7 +3,7 @@
 use Prim.Native.Nat.{ℕ, ◌+◌, ◌≤◌}
 use native.Mathlib.Omega.{arith}
 use mathlib.Core.Bool.{true}
-use mathlib.Core.Option.{none}
+use Rattle.std.specs.Prelude.{None, Ok}
 use mathlib.Core.Path.{◌≡◌}
 use borrow.Author.Tests.{eq-eqb}
 use Rattle.rounding.proofs.Tests.{true-not}
@@ -13,7 +13,6 @@ use Rattle.arena.specs.Refusals.{refused_by}
 use Rattle.arena.specs.Sound.{sound_of}
 use Rattle.arena.proofs.Refusing.{none-applies}
 use Rattle.arena.proofs.Soundness.{align-shut, sound-shut}
-use Rattle.calls.specs.declared.Given.TheVariants.{At}
 use Rattle.calls.specs.Grow.{grow_in, grow_tests, grow_of}
 use Rattle.calls.specs.Shrink.{shrink_in, shrink_tests, shrink_of}
 use Rattle.calls.specs.Inner.{Tested, GrowTested, ShrinkTested, lent_tests}
@@ -22,7 +21,7 @@ use Rattle.calls.proofs.Results.{given-at, grow-result, shrink-result}
 use Rattle.calls.proofs.Testing.{block_inside}
 
 -- of a sound record in its own region, the tests of what is lent refuse nothing
-pub lent-own : (a : Arena) {lent : ℕ} → sound_of a ≡ true → lent ≡ a.head.region → refused_by (lent_tests a lent) ≡ none
+pub lent-own : (a : Arena) {lent : ℕ} → sound_of a ≡ true → lent ≡ a.head.region → refused_by (lent_tests a lent) ≡ None
 lent-own a {lent} s e = none-applies (lent_tests a lent) (true-not s, (true-not (eq-eqb lent a.head.region e), tt))
 
 pub request-tested : {a : Arena} {lent size align : ℕ} → Request a lent size align → Tested a size align
@@ -45,7 +44,7 @@ pub record BothInside (lent offset old to new : ℕ) : Type 0 where
 
 -- of any record and any numbers
 module _ (a : Arena) (lent offset old old_align new new_align : ℕ) {to : ℕ} where
-  pub grow-served : (grow_of a lent offset old old_align new new_align).answer ≡ At to → BothInside lent offset old to new × (old ≤ new)
+  pub grow-served : (grow_of a lent offset old old_align new new_align).answer ≡ Ok to → BothInside lent offset old to new × (old ≤ new)
   unfolding grow_of
   grow-served e =
       let found =
@@ -54,7 +53,7 @@ module _ (a : Arena) (lent offset old old_align new new_align : ℕ) {to : ℕ} 
       let is = grow-result a lent offset old old_align new new_align found.passed found.gives in
       (record { source = omega (arith, source-inside ch, ch.request.region); room = omega (arith, is.inside, found.there) }, ch.direction)
 
-  pub shrink-served : (shrink_of a lent offset old old_align new new_align).answer ≡ At to → BothInside lent offset old to new × (new ≤ old)
+  pub shrink-served : (shrink_of a lent offset old old_align new new_align).answer ≡ Ok to → BothInside lent offset old to new × (new ≤ old)
   unfolding shrink_of
   shrink-served e =
       let found =

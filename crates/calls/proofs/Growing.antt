@@ -2,7 +2,8 @@
 use Prim.Native.Nat.{ℕ, ◌-◌, ◌≤◌, ◌<◌}
 use mathlib.Core.Bool.{Bool, true, false, cond, ◌&&◌}
 use mathlib.Core.List.{List}
-use mathlib.Core.Option.{none, some, none-ne-some}
+use Rattle.std.specs.Prelude.{None, Some}
+use Rattle.std.proofs.lemmas.Option.{none-some}
 use mathlib.Core.Path.{◌≡◌, refl, ap}
 use lib.Dec.{leb}
 use borrow.Author.Tests.{le-leb, lt-leb}
@@ -23,46 +24,46 @@ module _ (minimum : ℕ) (cs : List Chunk) (offset old old_align new new_align :
   abbrev more : ℕ
   more = round_up new minimum - old
 
-  pub not-to-higher : old_align < new_align → grown_pointer minimum cs offset old old_align new new_align ≡ none
+  pub not-to-higher : old_align < new_align → grown_pointer minimum cs offset old old_align new new_align ≡ None
   unfolding grown_pointer
   not-to-higher l = rw (lt-leb new_align old_align l)
 
-  pub not-elsewhere : at_pointer cs offset ≡ false → grown_pointer minimum cs offset old old_align new new_align ≡ none
+  pub not-elsewhere : at_pointer cs offset ≡ false → grown_pointer minimum cs offset old old_align new new_align ≡ None
   unfolding grown_pointer
   not-elsewhere f =
-      ap (λ (b : Bool). cond b (current_pointer minimum cs more old_align) none)
+      ap (λ (b : Bool). cond b (current_pointer minimum cs more old_align) None)
       (refute allowed (λ t. true-false (and_right (leb new_align old_align) (at_pointer cs offset) t) f))
 
   pub there : new_align ≤ old_align → at_pointer cs offset ≡ true → grown_pointer minimum cs offset old old_align new new_align ≡ current_pointer minimum cs more old_align
   unfolding grown_pointer
   there l t =
-      ap (λ (b : Bool). cond b (current_pointer minimum cs more old_align) none) (and_both (le-leb new_align old_align l) t)
+      ap (λ (b : Bool). cond b (current_pointer minimum cs more old_align) None) (and_both (le-leb new_align old_align l) t)
 
-  pub grown-lacks : grown_pointer minimum cs offset old old_align new new_align ≡ none → grown_in_place minimum cs offset old old_align new new_align ≡ none
+  pub grown-lacks : grown_pointer minimum cs offset old old_align new new_align ≡ None → grown_in_place minimum cs offset old old_align new new_align ≡ None
   unfolding grown_pointer grown_in_place
   grown-lacks e = go allowed e
     where
-      go : (b : Bool) → cond b (current_pointer minimum cs more old_align) none ≡ none → cond b (current_gives minimum cs more old_align) none ≡ none
+      go : (b : Bool) → cond b (current_pointer minimum cs more old_align) None ≡ None → cond b (current_gives minimum cs more old_align) None ≡ None
       go true f = current-lacks minimum cs more old_align f
       go false f = refl
 
-  pub grown-moved : {p : ℕ} → grown_pointer minimum cs offset old old_align new new_align ≡ some p →
-      grown_in_place minimum cs offset old old_align new new_align ≡ some (record { offset = p; chunks = moved_to cs p })
+  pub grown-moved : {p : ℕ} → grown_pointer minimum cs offset old old_align new new_align ≡ Some p →
+      grown_in_place minimum cs offset old old_align new new_align ≡ Some (record { offset = p; chunks = moved_to cs p })
   unfolding grown_pointer grown_in_place
   grown-moved {p} e = go allowed e
     where
-      go : (b : Bool) → cond b (current_pointer minimum cs more old_align) none ≡ some p →
-          cond b (current_gives minimum cs more old_align) none ≡ some (record { offset = p; chunks = moved_to cs p })
+      go : (b : Bool) → cond b (current_pointer minimum cs more old_align) None ≡ Some p →
+          cond b (current_gives minimum cs more old_align) None ≡ Some (record { offset = p; chunks = moved_to cs p })
       go true f = current-moved minimum cs more old_align f
-      go false f = absurd (none-ne-some p f)
+      go false f = absurd (none-some p f)
 
 module _ (h : Head) (cs : List Chunk) (offset old old_align new new_align : ℕ) where
-  pub grows-in-place : {t : Taken} → grown_in_place h.minimum cs offset old old_align new new_align ≡ some t →
-      grow_in h cs offset old old_align new new_align ≡ some t
+  pub grows-in-place : {t : Taken} → grown_in_place h.minimum cs offset old old_align new new_align ≡ Some t →
+      grow_in h cs offset old old_align new new_align ≡ Some t
   unfolding grow_in or_afresh
   grows-in-place e = rw e
 
-  pub grows-afresh : grown_in_place h.minimum cs offset old old_align new new_align ≡ none →
+  pub grows-afresh : grown_in_place h.minimum cs offset old old_align new new_align ≡ None →
       grow_in h cs offset old old_align new new_align ≡ allocate_in h cs new new_align
   unfolding grow_in or_afresh
   grows-afresh e = rw e

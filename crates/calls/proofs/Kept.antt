@@ -8,7 +8,6 @@ use mathlib.Core.Path.{◌≡◌, sym, ◌∙◌, ap}
 use lib.ListN.{length, get_or, replicate, length-replicate, get_or-replicate}
 use lib.Seq.{ext_get_or}
 use Rattle.arena.specs.declared.Arena.{Arena}
-use Rattle.calls.specs.declared.Given.TheVariants.{At}
 use Rattle.calls.specs.Bytes.{part}
 use Rattle.calls.specs.Grow.{grow_of, grow_bytes, grow_zeroed_bytes}
 use Rattle.calls.specs.Shrink.{shrink_of, shrink_bytes}
@@ -17,6 +16,7 @@ use Rattle.calls.proofs.Carrying.{Carries, grow-carries, grow-zeroed-carries, sh
 use Rattle.calls.proofs.Changing.{grow-served, shrink-served}
 use Rattle.calls.proofs.Resizing.{resize-served}
 use Rattle.calls.proofs.Writing.{length_part, get_d_part}
+use Rattle.std.specs.Prelude.{Ok}
 
 -- two parts that read the same are equal
 same-part : (after bytes : List ℕ) (to offset n : ℕ) → to + n ≤ length after → offset + n ≤ length bytes →
@@ -31,19 +31,19 @@ kept : {bytes after : List ℕ} {offset to n size : ℕ} → Carries bytes after
 kept {bytes} {after} {offset} {to} {n} c room source = same-part after bytes to offset n (omega (arith, c.only.same_length)) source c.reads
 
 module _ (a : Arena) (bytes : List ℕ) (offset old old_align new new_align to : ℕ) where
-  pub grow-keeps : (grow_of a (length bytes) offset old old_align new new_align).answer ≡ At to →
+  pub grow-keeps : (grow_of a (length bytes) offset old old_align new new_align).answer ≡ Ok to →
       part (grow_bytes a bytes offset old old_align new new_align) to old ≡ part bytes offset old
   grow-keeps e =
       let (is, up) = grow-served a (length bytes) offset old old_align new new_align e in
       kept (grow-carries a bytes offset old old_align new new_align to e) (omega (arith, is.room)) is.source
 
-  pub grow-zeroed-keeps : (grow_of a (length bytes) offset old old_align new new_align).answer ≡ At to →
+  pub grow-zeroed-keeps : (grow_of a (length bytes) offset old old_align new new_align).answer ≡ Ok to →
       part (grow_zeroed_bytes a bytes offset old old_align new new_align) to old ≡ part bytes offset old
   grow-zeroed-keeps e =
       let (is, up) = grow-served a (length bytes) offset old old_align new new_align e in
       kept (grow-zeroed-carries a bytes offset old old_align new new_align to e).kept (omega (arith, is.room)) is.source
 
-  pub grow-zeroed-clears : (grow_of a (length bytes) offset old old_align new new_align).answer ≡ At to →
+  pub grow-zeroed-clears : (grow_of a (length bytes) offset old old_align new new_align).answer ≡ Ok to →
       part (grow_zeroed_bytes a bytes offset old old_align new new_align) (to + old) (new - old) ≡ replicate (new - old) 0
   grow-zeroed-clears e =
       let (is, up) = grow-served a (length bytes) offset old old_align new new_align e in
@@ -59,14 +59,14 @@ module _ (a : Arena) (bytes : List ℕ) (offset old old_align new new_align to :
       ∙ is-zeroed.zeros (old + i) (omega arith) (omega arith)
       ∙ sym (get_or-replicate (new - old) i 0 0 (omega arith)))
 
-  pub shrink-keeps : (shrink_of a (length bytes) offset old old_align new new_align).answer ≡ At to →
+  pub shrink-keeps : (shrink_of a (length bytes) offset old old_align new new_align).answer ≡ Ok to →
       part (shrink_bytes a bytes offset old old_align new new_align) to new ≡ part bytes offset new
   shrink-keeps e =
       let (is, down) = shrink-served a (length bytes) offset old old_align new new_align e in
       kept (shrink-carries a bytes offset old old_align new new_align to e) is.room (omega (arith, is.source))
 
 -- a block of size 0 has nothing to keep, and its offset may be any number
-pub resize-keeps : (a : Arena) (bytes : List ℕ) (offset old align new to : ℕ) → 0 < old → (resize_of a (length bytes) offset old align new).answer ≡ At to →
+pub resize-keeps : (a : Arena) (bytes : List ℕ) (offset old align new to : ℕ) → 0 < old → (resize_of a (length bytes) offset old align new).answer ≡ Ok to →
     part (resize_bytes a bytes offset old align new) to (min old new) ≡ part bytes offset (min old new)
 resize-keeps a bytes offset old align new to l e =
     let is = resize-served a offset old align new (length bytes) l e in

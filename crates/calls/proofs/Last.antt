@@ -3,7 +3,7 @@ use Prim.Native.Nat.{ℕ, ◌+◌, ◌≤◌}
 use native.Mathlib.Omega.{arith}
 use mathlib.Core.Bool.{Bool, true, false, cond, ◌&&◌}
 use mathlib.Core.List.{List, ◌∷◌}
-use mathlib.Core.Option.{none}
+use Rattle.std.specs.Prelude.{None}
 use mathlib.Core.Path.{◌≡◌, refl, ◌∙◌, ap}
 use lib.Dec.{leb, eqb}
 use borrow.Author.Tests.{le-leb, le-ltb, eq-eqb}
@@ -46,7 +46,7 @@ module _ {region minimum : ℕ} {c : Chunk} (offset size : ℕ) (s : ChunkSound 
 
 module _ (a : Arena) (offset old old_align new new_align : ℕ) where
   pub last-grows : LastBlock a offset old old_align → GrowTested a old old_align new new_align →
-      grow_of a a.head.region offset old old_align new new_align ≡ given none a (grow_in a.head (held_of a) offset old old_align new new_align)
+      grow_of a a.head.region offset old old_align new new_align ≡ given None a (grow_in a.head (held_of a) offset old old_align new new_align)
   unfolding grow_of
   last-grows b t =
       let r = t.request in
@@ -66,7 +66,7 @@ module _ (a : Arena) (offset old old_align new new_align : ℕ) where
       ))
 
   pub last-shrinks : LastBlock a offset old old_align → ShrinkTested a offset old new new_align →
-      shrink_of a a.head.region offset old old_align new new_align ≡ given none a (shrink_in a.head (held_of a) offset old old_align new new_align)
+      shrink_of a a.head.region offset old old_align new new_align ≡ given None a (shrink_in a.head (held_of a) offset old old_align new new_align)
   unfolding shrink_of
   last-shrinks b t =
       let r = t.request in

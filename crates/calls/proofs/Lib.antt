@@ -4,7 +4,6 @@ pub mod Blocks
 pub mod Cancelling
 pub mod Carrying
 pub mod Carving
-pub mod Cases
 pub mod Changing
 pub mod Freeing
 pub mod Giving
@@ -28,6 +27,7 @@ pub mod Serving
 pub mod Shrinking
 pub mod Some
 pub mod StaysSound
+pub mod Stores
 pub mod Testing
 pub mod Touching
 pub mod Unread

@@ -5,7 +5,8 @@ use native.Mathlib.Nat.{dvd_trans, dvd-add}
 use native.Mathlib.Omega.{arith}
 use mathlib.Core.Bool.{Bool, true, false, cond, ◌&&◌}
 use mathlib.Core.List.{List, [], ◌∷◌}
-use mathlib.Core.Option.{Option, none, some, none-ne-some}
+use Rattle.std.specs.Prelude.{Option, None, Some}
+use Rattle.std.proofs.lemmas.Option.{none-some}
 use mathlib.Core.Path.{◌≡◌, refl, ap, subst, ◌∙◌}
 use lib.Dec.{leb, ltb, eqb}
 use borrow.Author.Tests.{leb-true, ltb-false, eqb-true, eqb-false}
@@ -42,14 +43,14 @@ pub finer : {p q x : ℕ} → Power p → Power q → p ≤ q → q ∣ x → p 
 finer {p} pp pq l d = dvd_trans p (power_divides pp pq l) d
 
 module _ {h : Head} {offset old_align new_align : ℕ} (old new : ℕ) (old-power : Power old_align) (new-power : Power new_align) (aligned : old_align ∣ offset) where
-  grown-in-place : (cs : List Chunk) → Standing h cs → {t : Taken} → grown_in_place h.minimum cs offset old old_align new new_align ≡ some t →
+  grown-in-place : (cs : List Chunk) → Standing h cs → {t : Taken} → grown_in_place h.minimum cs offset old old_align new new_align ≡ Some t →
       Moved h offset old new new_align t cs
   unfolding grown_in_place at_pointer current_gives
   grown-in-place cs s {t} e = go (leb new_align old_align) refl cs s e
     where
       stands_at_pointer : new_align ≤ old_align → (c : Chunk) (rest : List Chunk) → Standing h (c ∷ rest) → (u : Bool) → eqb offset c.pointer ≡ u →
-          cond u (current_gives h.minimum (c ∷ rest) (round_up new h.minimum - old) old_align) none ≡ some t → Moved h offset old new new_align t (c ∷ rest)
-      stands_at_pointer l c rest s false q r = absurd (none-ne-some t r)
+          cond u (current_gives h.minimum (c ∷ rest) (round_up new h.minimum - old) old_align) None ≡ Some t → Moved h offset old new new_align t (c ∷ rest)
+      stands_at_pointer l c rest s false q r = absurd (none-some t r)
       stands_at_pointer l c rest s true q r =
           let here = eqb-true offset c.pointer q in
           let more = round_up new h.minimum - old in
@@ -63,38 +64,38 @@ module _ {h : Head} {offset old_align new_align : ℕ} (old new : ℕ) (old-powe
           })
 
       go : (b : Bool) → leb new_align old_align ≡ b → (ds : List Chunk) → Standing h ds →
-          cond (b && at_pointer ds offset) (current_gives h.minimum ds (round_up new h.minimum - old) old_align) none ≡ some t →
+          cond (b && at_pointer ds offset) (current_gives h.minimum ds (round_up new h.minimum - old) old_align) None ≡ Some t →
           Moved h offset old new new_align t ds
-      go false p ds s r = absurd (none-ne-some t r)
-      go true p [] s r = absurd (none-ne-some t r)
+      go false p ds s r = absurd (none-some t r)
+      go true p [] s r = absurd (none-some t r)
       go true p (c ∷ rest) s r = stands_at_pointer (leb-true new_align old_align p) c rest s (eqb offset c.pointer) refl r
 
-  pub grow-moves : (cs : List Chunk) → Standing h cs → {t : Taken} → grow_in h cs offset old old_align new new_align ≡ some t →
+  pub grow-moves : (cs : List Chunk) → Standing h cs → {t : Taken} → grow_in h cs offset old old_align new new_align ≡ Some t →
       Moved h offset old new new_align t cs
   unfolding grow_in or_afresh
   grow-moves cs s {t} e = go (grown_in_place h.minimum cs offset old old_align new new_align) refl e
     where
-      go : (place : Option Taken) → grown_in_place h.minimum cs offset old old_align new new_align ≡ place → or_afresh h cs new new_align place ≡ some t →
+      go : (place : Option Taken) → grown_in_place h.minimum cs offset old old_align new new_align ≡ place → or_afresh h cs new new_align place ≡ Some t →
           Moved h offset old new new_align t cs
-      go none p r = afresh (allocate-serves new-power cs s r)
-      go (some u) p r = grown-in-place cs s (p ∙ r)
+      go None p r = afresh (allocate-serves new-power cs s r)
+      go (Some u) p r = grown-in-place cs s (p ∙ r)
 
   shrunk-in-place : new_align ≤ old_align → new ≤ old → (cs : List Chunk) → Standing h cs → {t : Taken} →
-      shrunk_in_place cs offset old (given_up h.minimum old new new_align) ≡ some t → Moved h offset old new new_align t cs
+      shrunk_in_place cs offset old (given_up h.minimum old new new_align) ≡ Some t → Moved h offset old new new_align t cs
   unfolding shrunk_in_place at_pointer moved_up
   shrunk-in-place l less cs s {t} e = go cs s e
     where
       d : ℕ
       d = given_up h.minimum old new new_align
 
-      stay : (ds : List Chunk) → stays ds offset ≡ some t → Moved h offset old new new_align t ds
+      stay : (ds : List Chunk) → stays ds offset ≡ Some t → Moved h offset old new new_align t ds
       stay ds r = staying (ap (λ (u : Taken). u.offset) same) (ap (λ (u : Taken). u.chunks) same) less (finer new-power old-power l aligned)
         where
           same : t ≡ record { offset = offset; chunks = ds }
           same = cc
 
       up : (c : Chunk) (rest : List Chunk) → Standing h (c ∷ rest) → offset ≡ c.pointer →
-          moved_up (c ∷ rest) offset d ≡ some t → Moved h offset old new new_align t (c ∷ rest)
+          moved_up (c ∷ rest) offset d ≡ Some t → Moved h offset old new new_align t (c ∷ rest)
       up c rest s here r =
           let same : record { offset = offset + d; chunks = with_pointer c (offset + d) ∷ rest } ≡ t = cc in
           let whole = down-multiple (old - new) (max new_align h.minimum) in
@@ -109,22 +110,22 @@ module _ {h : Head} {offset old_align new_align : ℕ} (old new : ℕ) (old-powe
           }))
 
       stands_at_pointer : (c : Chunk) (rest : List Chunk) → Standing h (c ∷ rest) → (u v : Bool) → eqb offset c.pointer ≡ u →
-          cond (u && v) (moved_up (c ∷ rest) offset d) (stays (c ∷ rest) offset) ≡ some t → Moved h offset old new new_align t (c ∷ rest)
+          cond (u && v) (moved_up (c ∷ rest) offset d) (stays (c ∷ rest) offset) ≡ Some t → Moved h offset old new new_align t (c ∷ rest)
       stands_at_pointer c rest s false v q r = stay (c ∷ rest) r
       stands_at_pointer c rest s true false q r = stay (c ∷ rest) r
       stands_at_pointer c rest s true true q r = up c rest s (eqb-true offset c.pointer q) r
 
-      go : (ds : List Chunk) → Standing h ds → shrunk_in_place ds offset old d ≡ some t → Moved h offset old new new_align t ds
+      go : (ds : List Chunk) → Standing h ds → shrunk_in_place ds offset old d ≡ Some t → Moved h offset old new new_align t ds
       go [] s r = stay [] r
       go (c ∷ rest) s r = stands_at_pointer c rest s (eqb offset c.pointer) (leb ((old + 1) / 2) d) refl r
 
-  pub shrink-moves : new ≤ old → (cs : List Chunk) → Standing h cs → {t : Taken} → shrink_in h cs offset old old_align new new_align ≡ some t →
+  pub shrink-moves : new ≤ old → (cs : List Chunk) → Standing h cs → {t : Taken} → shrink_in h cs offset old old_align new new_align ≡ Some t →
       Moved h offset old new new_align t cs
   unfolding shrink_in
   shrink-moves less cs s {t} e = go (ltb old_align new_align) refl (multiple new_align offset) refl e
     where
       go : (b : Bool) → ltb old_align new_align ≡ b → (m : Bool) → multiple new_align offset ≡ m →
-          cond b (cond m (stays cs offset) (allocate_in h cs new new_align)) (shrunk_in_place cs offset old (given_up h.minimum old new new_align)) ≡ some t →
+          cond b (cond m (stays cs offset) (allocate_in h cs new new_align)) (shrunk_in_place cs offset old (given_up h.minimum old new new_align)) ≡ Some t →
           Moved h offset old new new_align t cs
       go true p true q r =
           let same : t ≡ record { offset = offset; chunks = cs } = cc in
@@ -133,7 +134,7 @@ module _ {h : Head} {offset old_align new_align : ℕ} (old new : ℕ) (old-powe
       go false p m q r = shrunk-in-place (ltb-false old_align new_align p) less cs s r
 
 pub resize-moves : {h : Head} {offset align : ℕ} (old new : ℕ) → Power align → (0 < old → align ∣ offset) → (cs : List Chunk) → Standing h cs → {t : Taken} →
-    resize_in h cs offset old align new ≡ some t → Moved h offset old new align t cs
+    resize_in h cs offset old align new ≡ Some t → Moved h offset old new align t cs
 unfolding resize_in
 resize-moves {h} {offset} {align} old new power aligned cs s {t} e = go (eqb old 0) refl (leb new old) refl e
   where
@@ -143,7 +144,7 @@ resize-moves {h} {offset} {align} old new power aligned cs s {t} e = go (eqb old
         omega arith
 
     go : (b : Bool) → eqb old 0 ≡ b → (m : Bool) → leb new old ≡ m →
-        cond b (allocate_in h cs new align) (cond m (shrink_in h cs offset old align new align) (grow_in h cs offset old align new align)) ≡ some t →
+        cond b (allocate_in h cs new align) (cond m (shrink_in h cs offset old align new align) (grow_in h cs offset old align new align)) ≡ Some t →
         Moved h offset old new align t cs
     go true p m q r = afresh (allocate-serves power cs s r)
     go false p true q r = shrink-moves old new power power (aligned (some_bytes p)) (leb-true new old q) cs s r

@@ -5,7 +5,8 @@ use native.Mathlib.Omega.{arith}
 use mathlib.Core.Bool.{Bool, true, false, cond, ◌&&◌}
 use mathlib.Core.List.{List, [], ◌∷◌}
 use mathlib.Core.Logic.{◌⊎◌, ⊎_elim}
-use mathlib.Core.Option.{Option, none, some, some-ne-none}
+use Rattle.std.specs.Prelude.{Option, None, Some}
+use Rattle.rounding.proofs.Optional.{some-none}
 use mathlib.Core.Path.{◌≡◌, refl, sym, ap, ◌∙◌}
 use lib.Dec.{leb, ltb, eqb}
 use borrow.Author.Tests.{lt-ltb, le-ltb, le-leb, lt-leb, eq-eqb, ne_eqb}
@@ -20,30 +21,30 @@ use Rattle.calls.specs.Shrink.{stays, given_up, moved_up, shrunk_in_place, shrin
 use Rattle.calls.specs.Resize.{resize_in}
 
 module _ (h : Head) (cs : List Chunk) (offset old old_align new new_align : ℕ) where
-  pub grow-nothing : grow_in h cs offset old old_align new new_align ≡ none →
-      (grown_in_place h.minimum cs offset old old_align new new_align ≡ none) × (allocate_in h cs new new_align ≡ none)
+  pub grow-nothing : grow_in h cs offset old old_align new new_align ≡ None →
+      (grown_in_place h.minimum cs offset old old_align new new_align ≡ None) × (allocate_in h cs new new_align ≡ None)
   unfolding grow_in or_afresh
   grow-nothing e = go (grown_in_place h.minimum cs offset old old_align new new_align) refl
     where
       go : (o : Option Taken) → grown_in_place h.minimum cs offset old old_align new new_align ≡ o →
-          (grown_in_place h.minimum cs offset old old_align new new_align ≡ none) × (allocate_in h cs new new_align ≡ none)
-      go none p = (p, ap (or_afresh h cs new new_align) (sym p) ∙ e)
-      go (some t) p = absurd (some-ne-none t (ap (or_afresh h cs new new_align) (sym p) ∙ e))
+          (grown_in_place h.minimum cs offset old old_align new new_align ≡ None) × (allocate_in h cs new new_align ≡ None)
+      go None p = (p, ap (or_afresh h cs new new_align) (sym p) ∙ e)
+      go (Some t) p = absurd (some-none t (ap (or_afresh h cs new new_align) (sym p) ∙ e))
 
-  pub nothing-grows : grown_in_place h.minimum cs offset old old_align new new_align ≡ none → allocate_in h cs new new_align ≡ none →
-      grow_in h cs offset old old_align new new_align ≡ none
+  pub nothing-grows : grown_in_place h.minimum cs offset old old_align new new_align ≡ None → allocate_in h cs new new_align ≡ None →
+      grow_in h cs offset old old_align new new_align ≡ None
   unfolding grow_in or_afresh
   nothing-grows p q = ap (or_afresh h cs new new_align) p ∙ q
 
   -- a block in place of the shrunk one, always
-  in-place-something : (ds : List Chunk) (d : ℕ) → shrunk_in_place ds offset old d ≡ none → ⊥
+  in-place-something : (ds : List Chunk) (d : ℕ) → shrunk_in_place ds offset old d ≡ None → ⊥
   unfolding shrunk_in_place at_pointer moved_up
-  in-place-something [] d e = some-ne-none _ e
+  in-place-something [] d e = some-none _ e
   in-place-something (c ∷ ds) d e = go (eqb offset c.pointer && leb ((old + 1) / 2) d) e
     where
-      go : (b : Bool) → cond b (moved_up (c ∷ ds) offset d) (stays (c ∷ ds) offset) ≡ none → ⊥
-      go true q = some-ne-none _ q
-      go false q = some-ne-none _ q
+      go : (b : Bool) → cond b (moved_up (c ∷ ds) offset d) (stays (c ∷ ds) offset) ≡ None → ⊥
+      go true q = some-none _ q
+      go false q = some-none _ q
 
   pub shrink-afresh : old_align < new_align → ¬ (new_align ∣ offset) → shrink_in h cs offset old old_align new new_align ≡ allocate_in h cs new new_align
   unfolding shrink_in
@@ -52,7 +53,7 @@ module _ (h : Head) (cs : List Chunk) (offset old old_align new new_align : ℕ)
       let elsewhere = refute (multiple new_align offset) (λ t. off (multiple-dvd new_align offset t)) in
       rw (higher, elsewhere)
 
-  pub shrink-something : (new_align ≤ old_align) ⊎ (new_align ∣ offset) → shrink_in h cs offset old old_align new new_align ≡ none → ⊥
+  pub shrink-something : (new_align ≤ old_align) ⊎ (new_align ∣ offset) → shrink_in h cs offset old old_align new new_align ≡ None → ⊥
   unfolding shrink_in
   shrink-something reason e = go (ltb old_align new_align) refl e
     where
@@ -60,12 +61,12 @@ module _ (h : Head) (cs : List Chunk) (offset old old_align new new_align : ℕ)
       inner = cond (multiple new_align offset) (stays cs offset) (allocate_in h cs new new_align)
 
       go : (b : Bool) → ltb old_align new_align ≡ b →
-          cond b inner (shrunk_in_place cs offset old (given_up h.minimum old new new_align)) ≡ none → ⊥
+          cond b inner (shrunk_in_place cs offset old (given_up h.minimum old new new_align)) ≡ None → ⊥
       go false p q = in-place-something cs (given_up h.minimum old new new_align) q
       go true p q =
           ⊎_elim
           (λ l. let z : true ≡ false = sym p ∙ le-ltb old_align new_align l in let y : ◌≡◌ {A = ℕ} 0 1 = cc in omega arith)
-          (λ d. some-ne-none _ (ap (λ (b : Bool). cond b (stays cs offset) (allocate_in h cs new new_align)) (sym (dvd-multiple new_align d)) ∙ q))
+          (λ d. some-none _ (ap (λ (b : Bool). cond b (stays cs offset) (allocate_in h cs new new_align)) (sym (dvd-multiple new_align d)) ∙ q))
           reason
 
 module _ (h : Head) (cs : List Chunk) (offset old align new : ℕ) where

@@ -3,7 +3,8 @@ use Prim.Native.Nat.{ℕ, ◌≤◌, ◌<◌}
 use native.Mathlib.Omega.{arith}
 use mathlib.Core.Bool.{Bool, true, false, cond, not, ◌||◌, ◌&&◌}
 use mathlib.Core.List.{List, [], ◌∷◌}
-use mathlib.Core.Option.{none, some, none-ne-some, some-injective}
+use Rattle.std.specs.Prelude.{None, Some}
+use Rattle.std.proofs.lemmas.Option.{none-some, same_Some}
 use mathlib.Core.Path.{◌≡◌, sym, ap, subst, ◌∙◌}
 use lib.Dec.{ltb, eqb}
 use borrow.Author.Tests.{ltb-false, eqb-true, ne_eqb, not-false}
@@ -27,13 +28,13 @@ use Rattle.calls.specs.Resize.{resize_tests}
 use Rattle.calls.specs.Token.{bad_token, cancel_tests}
 
 -- what holds of each test's refusal holds of the one that is answered
-pub refused-one : (P : Refusal → Type 0) (ts : List Test) → Each (λ t. P t.refusal) ts → {r : Refusal} → refused_by ts ≡ some r → P r
+pub refused-one : (P : Refusal → Type 0) (ts : List Test) → Each (λ t. P t.refusal) ts → {r : Refusal} → refused_by ts ≡ Some r → P r
 unfolding refused_by
-refused-one P [] h {r} e = absurd (none-ne-some r e)
+refused-one P [] h {r} e = absurd (none-some r e)
 refused-one P (t ∷ ts) h {r} e = go t.applies e (refused-one P ts h.1)
   where
-    go : (b : Bool) → cond b (some t.refusal) (refused_by ts) ≡ some r → (refused_by ts ≡ some r → P r) → P r
-    go true q rest = subst P (some-injective t.refusal r q) h.0
+    go : (b : Bool) → cond b (Some t.refusal) (refused_by ts) ≡ Some r → (refused_by ts ≡ Some r → P r) → P r
+    go true q rest = subst P (same_Some t.refusal r q) h.0
     go false q rest = rest q
 
 -- a sound record, the bytes of its region, and a size and an alignment that are allowed
@@ -62,7 +63,7 @@ align-passed align t = align-open align (not-false (allowed_align align) t)
 aligns-open : (old new : ℕ) → (not (allowed_align old) || not (allowed_align new)) ≡ false → AllowedAlign old × AllowedAlign new
 aligns-open old new t = (align-passed old (or-false-left (not (allowed_align old)) _ t), align-passed new (or-false-right (not (allowed_align old)) _ t))
 
-pub request-passes : (a : Arena) (lent size align : ℕ) → refused_by (request_tests a lent size align) ≡ none → Request a lent size align
+pub request-passes : (a : Arena) (lent size align : ℕ) → refused_by (request_tests a lent size align) ≡ None → Request a lent size align
 request-passes a lent size align e =
     let passed = not-refused (request_tests a lent size align) e in
     opened a lent passed.0 passed.1.0 (ltb-false most size passed.1.1.0) (align-passed align passed.1.1.1.0)
@@ -75,7 +76,7 @@ pub record Change (a : Arena) (lent offset old old_align new new_align low high 
   pub accepted : acceptable (held_of a) offset old old_align ≡ true
   pub direction : low ≤ high
 
-pub grow-passes : (a : Arena) (lent offset old old_align new new_align : ℕ) → refused_by (grow_tests a lent offset old old_align new new_align) ≡ none →
+pub grow-passes : (a : Arena) (lent offset old old_align new new_align : ℕ) → refused_by (grow_tests a lent offset old old_align new new_align) ≡ None →
     Change a lent offset old old_align new new_align old new
 grow-passes a lent offset old old_align new new_align e =
     let passed = not-refused (grow_tests a lent offset old old_align new new_align) e in
@@ -89,7 +90,7 @@ grow-passes a lent offset old old_align new new_align e =
       direction = ltb-false new old passed.1.1.1.1.1.0;
     }
 
-pub shrink-passes : (a : Arena) (lent offset old old_align new new_align : ℕ) → refused_by (shrink_tests a lent offset old old_align new new_align) ≡ none →
+pub shrink-passes : (a : Arena) (lent offset old old_align new new_align : ℕ) → refused_by (shrink_tests a lent offset old old_align new new_align) ≡ None →
     Change a lent offset old old_align new new_align new old
 shrink-passes a lent offset old old_align new new_align e =
     let passed = not-refused (shrink_tests a lent offset old old_align new new_align) e in
@@ -103,13 +104,13 @@ shrink-passes a lent offset old old_align new new_align e =
       direction = ltb-false old new passed.1.1.1.1.1.0;
     }
 
-pub resize-passes : (a : Arena) (lent offset old align new : ℕ) → refused_by (resize_tests a lent offset old align new) ≡ none → Request a lent new align
+pub resize-passes : (a : Arena) (lent offset old align new : ℕ) → refused_by (resize_tests a lent offset old align new) ≡ None → Request a lent new align
 resize-passes a lent offset old align new e =
     let passed = not-refused (resize_tests a lent offset old align new) e in
     opened a lent passed.0 passed.1.0 (sizes-open old new passed.1.1.0).1 (align-passed align passed.1.1.1.0)
 
 -- the block of a resize is tested where it has bytes
-pub resize-accepted : (a : Arena) (lent offset old align new : ℕ) → refused_by (resize_tests a lent offset old align new) ≡ none → 0 < old →
+pub resize-accepted : (a : Arena) (lent offset old align new : ℕ) → refused_by (resize_tests a lent offset old align new) ≡ None → 0 < old →
     acceptable (held_of a) offset old align ≡ true
 resize-accepted a lent offset old align new e l =
     let passed = not-refused (resize_tests a lent offset old align new) e in
@@ -117,13 +118,13 @@ resize-accepted a lent offset old align new e l =
     not-false (acceptable (held_of a) offset old align)
     (ap (λ (b : Bool). b && not (acceptable (held_of a) offset old align)) (sym bytes) ∙ passed.1.1.1.1.0)
 
-pub free-passes : (a : Arena) (offset size align : ℕ) → refused_by (free_tests a offset size align) ≡ none →
+pub free-passes : (a : Arena) (offset size align : ℕ) → refused_by (free_tests a offset size align) ≡ None →
     Sound a × (acceptable (held_of a) offset size align ≡ true)
 free-passes a offset size align e =
     let passed = not-refused (free_tests a offset size align) e in
     (sound-open a (not-false (sound_of a) passed.0), not-false (acceptable (held_of a) offset size align) passed.1.1.1.0)
 
-pub cancel-passes : (a : Arena) (offset : ℕ) (token : Token) → refused_by (cancel_tests a offset token) ≡ none →
+pub cancel-passes : (a : Arena) (offset : ℕ) (token : Token) → refused_by (cancel_tests a offset token) ≡ None →
     Sound a × (bad_token a.head.minimum (held_of a) offset token ≡ false)
 cancel-passes a offset token e =
     let passed = not-refused (cancel_tests a offset token) e in

@@ -2,8 +2,8 @@
 use Prim.Native.Nat.{ℕ, ◌≤◌, ◌<◌}
 use mathlib.Core.Bool.{true, false}
 use mathlib.Core.List.{List, [], ◌∷◌}
-use mathlib.Core.Option.{none, some}
-use mathlib.Core.Path.{◌≡◌, ◌∙◌, ap}
+use Rattle.std.specs.Prelude.{None, Some, Err}
+use mathlib.Core.Path.{◌≡◌, sym, ◌∙◌, ap}
 use borrow.Author.Tests.{eq-eqb, ne_eqb, lt-ltb, le-ltb}
 use Rattle.rounding.proofs.Tests.{true-not, false-not}
 use Rattle.arena.specs.declared.Arena.{Arena}
@@ -16,10 +16,12 @@ use Rattle.arena.specs.Sound.{allowed_align, sound_of, state_test}
 use Rattle.arena.proofs.Refusing.{refused-now, refused-later, none-applies}
 use Rattle.calls.specs.Tests.{region_test, size_test, align_test}
 use Rattle.calls.specs.Allocate.{allocate_in, given, request_tests, allocate_of}
-use Rattle.calls.specs.Inner.{Tested}
+use Rattle.calls.specs.Inner.{Tested, lent_tests, first_of}
+use Rattle.calls.proofs.Answering.{stopped-first}
+use Rattle.calls.proofs.Testing.{tests-refuse}
 
 module _ (a : Arena) (lent size align : ℕ) where
-  refuses : {r : Refusal} → refused_by (request_tests a lent size align) ≡ some r → allocate_of a lent size align ≡ given (some r) a none
+  refuses : {r : Refusal} → refused_by (request_tests a lent size align) ≡ Some r → allocate_of a lent size align ≡ given (Some r) a None
   unfolding allocate_of given
   refuses e = ap (λ o. given o a (allocate_in a.head (held_of a) size align)) e
 
@@ -36,21 +38,26 @@ module _ (a : Arena) (lent size align : ℕ) where
   past-region : sound_of a ≡ true → lent ≡ a.head.region → refused_by (request_tests a lent size align) ≡ refused_by from_size
   past-region s e = past-state s ∙ refused-later (region_test a lent) from_size (true-not (eq-eqb lent a.head.region e))
 
-  pub allocate-state : sound_of a ≡ false → allocate_of a lent size align ≡ given (some State) a none
+  pub allocate-state : sound_of a ≡ false → allocate_of a lent size align ≡ given (Some State) a None
   allocate-state s = refuses (refused-now (state_test a) from_region (false-not s))
 
-  pub allocate-region : sound_of a ≡ true → (lent ≡ a.head.region → ⊥) → allocate_of a lent size align ≡ given (some Region) a none
+  pub allocate-region : sound_of a ≡ true → (lent ≡ a.head.region → ⊥) → allocate_of a lent size align ≡ given (Some Region) a None
   allocate-region s differs = refuses (past-state s ∙ refused-now (region_test a lent) from_size (false-not (ne_eqb lent a.head.region differs)))
 
-  pub allocate-size : sound_of a ≡ true → lent ≡ a.head.region → most < size → allocate_of a lent size align ≡ given (some Size) a none
+  -- the tests of what is lent, in one
+  pub allocate-lent : {r : Refusal} → first_of (lent_tests a lent) ≡ Err r → allocate_of a lent size align ≡ record { answer = Err r; arena = a }
+  unfolding allocate_of given
+  allocate-lent e = stopped-first a (lent_tests a lent) from_size _ (tests-refuse _ (sym e))
+
+  pub allocate-size : sound_of a ≡ true → lent ≡ a.head.region → most < size → allocate_of a lent size align ≡ given (Some Size) a None
   allocate-size s e l = refuses (past-region s e ∙ refused-now (size_test size) (align_test align ∷ []) (lt-ltb most size l))
 
   pub allocate-align : sound_of a ≡ true → lent ≡ a.head.region → size ≤ most → allowed_align align ≡ false →
-      allocate_of a lent size align ≡ given (some Align) a none
+      allocate_of a lent size align ≡ given (Some Align) a None
   allocate-align s e l t =
       refuses (past-region s e ∙ refused-later (size_test size) (align_test align ∷ []) (le-ltb most size l) ∙ refused-now (align_test align) [] (false-not t))
 
-  pub allocate-works : lent ≡ a.head.region → Tested a size align → allocate_of a lent size align ≡ given none a (allocate_in a.head (held_of a) size align)
+  pub allocate-works : lent ≡ a.head.region → Tested a size align → allocate_of a lent size align ≡ given None a (allocate_in a.head (held_of a) size align)
   unfolding allocate_of
   allocate-works e t =
       ap (λ o. given o a (allocate_in a.head (held_of a) size align))

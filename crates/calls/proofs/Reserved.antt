@@ -4,23 +4,20 @@ use Prim.Native.Nat.{ℕ, ◌+◌, ◌≤◌, ◌<◌}
 use native.Mathlib.Omega.{arith}
 use mathlib.Core.List.{List, ◌∷◌}
 use mathlib.Core.Logic.{⊎_elim}
-use mathlib.Core.Option.{Option, none, some}
+use Rattle.std.specs.Prelude.{Option, None, Some, Err, Ok}
 use mathlib.Core.Path.{◌≡◌, refl, sym, subst, ap}
 use lib.ListN.{length, get_or, length-replicate}
 use Rattle.rounding.specs.Every.{Each}
 use Rattle.arena.specs.declared.Arena.{Arena}
 use Rattle.arena.specs.declared.Chunk.{Chunk}
 use Rattle.arena.specs.declared.Head.{Head}
-use Rattle.arena.specs.declared.Answer.TheVariants.{Done}
 use Rattle.arena.specs.declared.Refusal.{Refusal}
 use Rattle.arena.specs.declared.Refusal.TheVariants.{Room}
 use Rattle.arena.specs.Record.{end_of, past_of, with_pointer, held_of}
-use Rattle.arena.specs.Refusals.{refused_by}
+use Rattle.arena.specs.Refusals.{refused_by, Given}
 use Rattle.arena.proofs.Soundness.{Clear, Apart, sound-open}
 use Rattle.arena.proofs.Standing.{Standing, sound-standing}
 use Rattle.arena.proofs.View.{held-holding}
-use Rattle.calls.specs.declared.Given.{Given}
-use Rattle.calls.specs.declared.Given.TheVariants.{At, Refused}
 use Rattle.calls.specs.Bytes.{after_given}
 use Rattle.calls.specs.Allocate.{Taken, given, allocate_of}
 use Rattle.calls.specs.Grow.{grow_of, grow_bytes, grow_zeroed_bytes}
@@ -83,20 +80,20 @@ replaced-gives is = record { stands = is.stands; lies = is.lies; reserves = move
 
 -- so where only bytes of the given block change, and none where the call is refused, no reserved byte does
 never-written : (a : Arena) (bytes left : List ℕ) (size : ℕ) (r : Option Refusal) (o : Option Taken) →
-    ((t : Taken) → r ≡ none → o ≡ some t → Gives a size t) →
-    ((to : ℕ) → (given r a o).answer ≡ At to → OnlyIn bytes left to (to + size)) →
-    ((refusal : Refusal) → (given r a o).answer ≡ Refused refusal → left ≡ bytes) →
+    ((t : Taken) → r ≡ None → o ≡ Some t → Gives a size t) →
+    ((to : ℕ) → (given r a o).answer ≡ Ok to → OnlyIn bytes left to (to + size)) →
+    ((refusal : Refusal) → (given r a o).answer ≡ Err refusal → left ≡ bytes) →
     NeverWritten a (given r a o).arena bytes left
 unfolding given
-never-written a bytes left size (some r) o gives only same x in_either = ap (λ (l : List ℕ). get_or l x 0) (same r refl)
-never-written a bytes left size none none gives only same x in_either = ap (λ (l : List ℕ). get_or l x 0) (same Room refl)
-never-written a bytes left size none (some t) gives only same x in_either =
+never-written a bytes left size (Some r) o gives only same x in_either = ap (λ (l : List ℕ). get_or l x 0) (same r refl)
+never-written a bytes left size None None gives only same x in_either = ap (λ (l : List ℕ). get_or l x 0) (same Room refl)
+never-written a bytes left size None (Some t) gives only same x in_either =
     let is = gives t refl refl in
     let held = held-holding a.head t.chunks is.stands.few in
     (only t.offset refl).elsewhere x (λ low high.
     lies-unreserved is.stands.apart is.lies low high (⊎_elim (λ before. is.reserves before) (λ after. subst (Reserved x) held after) in_either))
 
-refused-same : (g : Given) (make : ℕ → List ℕ) (bytes : List ℕ) (r : Refusal) → g ≡ Refused r → after_given g make bytes ≡ bytes
+refused-same : (g : Given) (make : ℕ → List ℕ) (bytes : List ℕ) (r : Refusal) → g ≡ Err r → after_given g make bytes ≡ bytes
 unfolding after_given
 refused-same g make bytes r e = rw e
 
@@ -145,7 +142,7 @@ module _ (a : Arena) (bytes : List ℕ) where
       (refused-same _ _ bytes)
 
 -- nor is a byte reserved that is lent
-pub lent-unreserved : (a : Arena) (lent offset size align : ℕ) → lend_of a lent offset size align ≡ Done →
+pub lent-unreserved : (a : Arena) (lent offset size align : ℕ) → lend_of a lent offset size align ≡ (Ok tt) →
     (x : ℕ) → offset ≤ x → x < offset + size → Reserved x (held_of a) → ⊥
 unfolding lend_of
 lent-unreserved a lent offset size align e x low high =

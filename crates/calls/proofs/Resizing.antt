@@ -10,10 +10,8 @@ use borrow.Author.Tests.{ne_eqb}
 use Rattle.arena.specs.declared.Arena.{Arena}
 use Rattle.arena.specs.declared.Refusal.TheVariants.{Align, Block}
 use Rattle.arena.specs.Record.{held_of}
-use Rattle.arena.specs.Refusals.{Test, test, refused_by}
+use Rattle.arena.specs.Refusals.{Test, test, refused_by, Given}
 use Rattle.arena.specs.Sound.{allowed_align}
-use Rattle.calls.specs.declared.Given.{Given}
-use Rattle.calls.specs.declared.Given.TheVariants.{At, Refused}
 use Rattle.calls.specs.Bytes.{carried, after_given}
 use Rattle.calls.specs.Tests.{acceptable, sizes_test, align_test}
 use Rattle.calls.specs.Allocate.{allocate_of}
@@ -22,6 +20,7 @@ use Rattle.calls.specs.Inner.{change_tests}
 use Rattle.calls.proofs.Changing.{BothInside}
 use Rattle.calls.proofs.Results.{given-at, resize-result}
 use Rattle.calls.proofs.Writing.{carried-nothing}
+use Rattle.std.specs.Prelude.{Err, Ok}
 
 or_same : (b : Bool) → (b || b) ≡ b
 or_same true = refl
@@ -48,13 +47,13 @@ module _ (a : Arena) (offset old align new : ℕ) where
 
   pub nothing-carried : (bytes : List ℕ) (g : Given) → old ≡ 0 → after_given g (λ to. carried bytes offset to (min old new)) bytes ≡ bytes
   unfolding after_given
-  nothing-carried bytes (At to) e =
+  nothing-carried bytes (Ok to) e =
       let none_kept : min old new ≡ 0 = omega (arith, min-le_left old new) in
       ap (carried bytes offset to) none_kept ∙ carried-nothing bytes offset to
-  nothing-carried bytes (Refused r) e = refl
+  nothing-carried bytes (Err r) e = refl
 
   -- of any record and any numbers: where a block is answered for one of a size above 0, its old and its new bytes lie in the region
-  pub resize-served : (lent : ℕ) → 0 < old → {to : ℕ} → (resize_of a lent offset old align new).answer ≡ At to → BothInside lent offset old to new
+  pub resize-served : (lent : ℕ) → 0 < old → {to : ℕ} → (resize_of a lent offset old align new).answer ≡ Ok to → BothInside lent offset old to new
   unfolding resize_of
   resize-served lent l e =
       let found = given-at a (refused_by (resize_tests a lent offset old align new)) (resize_in a.head (held_of a) offset old align new) e in

@@ -5,14 +5,13 @@ use native.Mathlib.Nat.{eq-zero-or-pos}
 use native.Mathlib.Omega.{arith}
 use mathlib.Core.Bool.{true}
 use mathlib.Core.Logic.{⊎_elim}
-use mathlib.Core.Option.{Option, none, some}
+use Rattle.std.specs.Prelude.{Option, None, Some, Ok}
 use mathlib.Core.Path.{◌≡◌, refl, sym, ◌∙◌}
 use Rattle.arena.specs.declared.Arena.{Arena}
 use Rattle.arena.specs.declared.Refusal.{Refusal}
 use Rattle.arena.specs.Record.{held_of}
 use Rattle.arena.specs.Refusals.{refused_by}
 use Rattle.arena.proofs.Standing.{Standing, sound-standing}
-use Rattle.calls.specs.declared.Given.TheVariants.{At}
 use Rattle.calls.specs.Tests.{acceptable}
 use Rattle.calls.specs.Allocate.{Taken, given, allocate_in, request_tests}
 use Rattle.calls.specs.Grow.{grow_in, grow_tests}
@@ -27,15 +26,15 @@ use Rattle.calls.proofs.Blocks.{Lies, acceptable-aligned, acceptable-lies, lies-
 -- the answer is a block's offset where no test refuses the call and the rules give the block
 pub record GivenAt (r : Option Refusal) (o : Option Taken) (to : ℕ) : Type 0 where
   pub taken : Taken
-  pub passed : r ≡ none
-  pub gives : o ≡ some taken
+  pub passed : r ≡ None
+  pub gives : o ≡ Some taken
   pub there : taken.offset ≡ to
 
-pub given-at : {to : ℕ} (a : Arena) (r : Option Refusal) (o : Option Taken) → (given r a o).answer ≡ At to → GivenAt r o to
+pub given-at : {to : ℕ} (a : Arena) (r : Option Refusal) (o : Option Taken) → (given r a o).answer ≡ Ok to → GivenAt r o to
 unfolding given
-given-at a (some x) o e = absurd (let z : ◌≡◌ {A = ℕ} 0 1 = cc in omega arith)
-given-at a none none e = absurd (let z : ◌≡◌ {A = ℕ} 0 1 = cc in omega arith)
-given-at a none (some t) e = record { taken = t; passed = refl; gives = refl; there = cc }
+given-at a (Some x) o e = absurd (let z : ◌≡◌ {A = ℕ} 0 1 = cc in omega arith)
+given-at a None None e = absurd (let z : ◌≡◌ {A = ℕ} 0 1 = cc in omega arith)
+given-at a None (Some t) e = record { taken = t; passed = refl; gives = refl; there = cc }
 
 -- a fresh block
 pub record Allocated (a : Arena) (lent size align : ℕ) (t : Taken) : Type 0 where
@@ -54,8 +53,8 @@ pub record Replaced (a : Arena) (lent offset old new new_align : ℕ) (t : Taken
   pub inside : t.offset + new ≤ lent
   pub old-inside : 0 < old → offset + old ≤ lent
 
-pub allocate-result : (a : Arena) (lent size align : ℕ) {t : Taken} → refused_by (request_tests a lent size align) ≡ none →
-    allocate_in a.head (held_of a) size align ≡ some t → Allocated a lent size align t
+pub allocate-result : (a : Arena) (lent size align : ℕ) {t : Taken} → refused_by (request_tests a lent size align) ≡ None →
+    allocate_in a.head (held_of a) size align ≡ Some t → Allocated a lent size align t
 allocate-result a lent size align r o =
     let request = request-passes a lent size align r in
     let standing = sound-standing request.sound in
@@ -83,8 +82,8 @@ replaced {a} {offset = offset} {old = old} old_align request accepted moved =
     }
 
 module _ (a : Arena) (lent offset old old_align new new_align : ℕ) {t : Taken} where
-  pub grow-result : refused_by (grow_tests a lent offset old old_align new new_align) ≡ none →
-      grow_in a.head (held_of a) offset old old_align new new_align ≡ some t →
+  pub grow-result : refused_by (grow_tests a lent offset old old_align new new_align) ≡ None →
+      grow_in a.head (held_of a) offset old old_align new new_align ≡ Some t →
       Replaced a lent offset old new new_align t
   grow-result r o =
       let change = grow-passes a lent offset old old_align new new_align r in
@@ -92,8 +91,8 @@ module _ (a : Arena) (lent offset old old_align new new_align : ℕ) {t : Taken}
       (grow-moves old new change.old-allowed.power change.request.align_allowed.power
       (acceptable-aligned (held_of a) offset old old_align change.accepted) (held_of a) (sound-standing change.request.sound) o)
 
-  pub shrink-result : refused_by (shrink_tests a lent offset old old_align new new_align) ≡ none →
-      shrink_in a.head (held_of a) offset old old_align new new_align ≡ some t →
+  pub shrink-result : refused_by (shrink_tests a lent offset old old_align new new_align) ≡ None →
+      shrink_in a.head (held_of a) offset old old_align new new_align ≡ Some t →
       Replaced a lent offset old new new_align t
   shrink-result r o =
       let change = shrink-passes a lent offset old old_align new new_align r in
@@ -102,8 +101,8 @@ module _ (a : Arena) (lent offset old old_align new new_align : ℕ) {t : Taken}
       (acceptable-aligned (held_of a) offset old old_align change.accepted) change.direction (held_of a) (sound-standing change.request.sound) o)
 
 -- of old size 0 the block is fresh, and the offset was not tested
-pub resize-result : (a : Arena) (lent offset old align new : ℕ) {t : Taken} → refused_by (resize_tests a lent offset old align new) ≡ none →
-    resize_in a.head (held_of a) offset old align new ≡ some t → Replaced a lent offset old new align t
+pub resize-result : (a : Arena) (lent offset old align new : ℕ) {t : Taken} → refused_by (resize_tests a lent offset old align new) ≡ None →
+    resize_in a.head (held_of a) offset old align new ≡ Some t → Replaced a lent offset old new align t
 resize-result a lent offset old align new {t} r o = ⊎_elim fresh moves (eq-zero-or-pos old)
   where
     request : Request a lent new align

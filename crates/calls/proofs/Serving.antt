@@ -3,7 +3,8 @@
 use Prim.Native.Nat.{ℕ, ◌^◌, ◌≤◌, ◌<◌}
 use native.Mathlib.Omega.{arith}
 use mathlib.Core.List.{List, [], ◌∷◌}
-use mathlib.Core.Option.{Option, none, some, none-ne-some}
+use Rattle.std.specs.Prelude.{Option, None, Some}
+use Rattle.std.proofs.lemmas.Option.{none-some}
 use mathlib.Core.Path.{◌≡◌, refl, sym, ap, ◌∙◌}
 use Rattle.rounding.proofs.Every.{every_map}
 use Rattle.rounding.proofs.Powers.{Power}
@@ -23,21 +24,21 @@ pub data Served (h : Head) (size align : ℕ) (t : Taken) : List Chunk → Type 
   by-new : {cs : List Chunk} (c : Chunk) → Fresh h cs c → TakenFrom h.minimum c cs size align t → Served h size align t cs
 
 module _ {h : Head} {size align : ℕ} (power : Power align) where
-  pub current-served : (cs : List Chunk) → Standing h cs → {t : Taken} → current_gives h.minimum cs size align ≡ some t → Served h size align t cs
+  pub current-served : (cs : List Chunk) → Standing h cs → {t : Taken} → current_gives h.minimum cs size align ≡ Some t → Served h size align t cs
   unfolding current_gives
-  current-served [] s {t} e = absurd (none-ne-some t e)
+  current-served [] s {t} e = absurd (none-some t e)
   current-served (c ∷ cs) s e = by-current (current-carves h.minimum c cs size align s.settings.minimum-power power s.chunks.0.pointer-multiple e)
 
-  pub allocate-serves : (cs : List Chunk) → Standing h cs → {t : Taken} → allocate_in h cs size align ≡ some t → Served h size align t cs
+  pub allocate-serves : (cs : List Chunk) → Standing h cs → {t : Taken} → allocate_in h cs size align ≡ Some t → Served h size align t cs
   unfolding allocate_in or_ladder new_chunk_gives
   allocate-serves cs s {t} e = go (current_gives h.minimum cs size align) refl (ladder h cs size align) refl e
     where
       go : (current : Option Taken) → current_gives h.minimum cs size align ≡ current →
           (new : Option Chunk) → ladder h cs size align ≡ new →
-          or_ladder h cs size align current ≡ some t → Served h size align t cs
-      go (some u) p new q r = current-served cs s (p ∙ r)
-      go none p none q r = absurd (none-ne-some t (ap (λ (o : Option Chunk). new_chunk_gives h.minimum cs o size align) (sym q) ∙ r))
-      go none p (some c) q r =
+          or_ladder h cs size align current ≡ Some t → Served h size align t cs
+      go (Some u) p new q r = current-served cs s (p ∙ r)
+      go None p None q r = absurd (none-some t (ap (λ (o : Option Chunk). new_chunk_gives h.minimum cs o size align) (sym q) ∙ r))
+      go None p (Some c) q r =
           let rung = ladder-served h cs size align q in
           let fresh = rung-fresh h cs size rung.base power rung.gives in
           let pushed = standing-pushed s fresh in
@@ -47,16 +48,16 @@ module _ {h : Head} {size align : ℕ} (power : Power align) where
 
 module _ {h : Head} {cs : List Chunk} (s : Standing h cs) (size align : ℕ) where
   -- where allocate gives nothing, the current chunk gives nothing and no rung is served
-  pub nothing-from-current : allocate_in h cs size align ≡ none → current_gives h.minimum cs size align ≡ none
+  pub nothing-from-current : allocate_in h cs size align ≡ None → current_gives h.minimum cs size align ≡ None
   unfolding allocate_in or_ladder
   nothing-from-current e = go (current_gives h.minimum cs size align) refl
     where
-      go : (current : Option Taken) → current_gives h.minimum cs size align ≡ current → current_gives h.minimum cs size align ≡ none
-      go none p = p
-      go (some t) p = absurd (none-ne-some t (sym e ∙ ap (or_ladder h cs size align) p))
+      go : (current : Option Taken) → current_gives h.minimum cs size align ≡ current → current_gives h.minimum cs size align ≡ None
+      go None p = p
+      go (Some t) p = absurd (none-some t (sym e ∙ ap (or_ladder h cs size align) p))
 
-  pub nothing-from-rungs : Power align → size ≤ most → allocate_in h cs size align ≡ none →
-      (base : ℕ) → Rung h cs size base → rung_chunk h cs size align base ≡ none
+  pub nothing-from-rungs : Power align → size ≤ most → allocate_in h cs size align ≡ None →
+      (base : ℕ) → Rung h cs size base → rung_chunk h cs size align base ≡ None
   unfolding allocate_in or_ladder new_chunk_gives
   nothing-from-rungs power l e =
       no-rung-served h cs size align small (go (ladder h cs size align) refl)
@@ -64,20 +65,20 @@ module _ {h : Head} {cs : List Chunk} (s : Standing h cs) (size align : ℕ) whe
       small : first_base cs size < 2 ^ 63
       small = omega (arith, first-base-bound cs (every_map (λ c x. x.inside) cs s.chunks) s.settings.region_bound l)
 
-      without : or_ladder h cs size align none ≡ none
+      without : or_ladder h cs size align None ≡ None
       without = ap (or_ladder h cs size align) (sym (nothing-from-current e)) ∙ e
 
-      go : (new : Option Chunk) → ladder h cs size align ≡ new → ladder h cs size align ≡ none
-      go none q = q
-      go (some c) q =
+      go : (new : Option Chunk) → ladder h cs size align ≡ new → ladder h cs size align ≡ None
+      go None q = q
+      go (Some c) q =
           let rung = ladder-served h cs size align q in
           let room = rung-room h cs size rung.base power rung.gives s.settings.minimum-power s.settings.minimum-bound in
           let gives = current-gives h.minimum c cs size align room in
-          absurd (none-ne-some gives.0 (sym without ∙ ap (λ (o : Option Chunk). new_chunk_gives h.minimum cs o size align) q ∙ gives.1))
+          absurd (none-some gives.0 (sym without ∙ ap (λ (o : Option Chunk). new_chunk_gives h.minimum cs o size align) q ∙ gives.1))
 
   -- and the other way round
-  pub nothing-allocates : current_gives h.minimum cs size align ≡ none → ((base : ℕ) → Rung h cs size base → rung_chunk h cs size align base ≡ none) →
-      allocate_in h cs size align ≡ none
+  pub nothing-allocates : current_gives h.minimum cs size align ≡ None → ((base : ℕ) → Rung h cs size base → rung_chunk h cs size align base ≡ None) →
+      allocate_in h cs size align ≡ None
   unfolding allocate_in or_ladder new_chunk_gives
   nothing-allocates p no-rung =
       ap (or_ladder h cs size align) p

@@ -3,7 +3,7 @@ use Prim.Native.Nat.{ℕ, ◌+◌, ◌/◌, ◌≤◌, ◌<◌}
 use mathlib.Core.Bool.{Bool, true, false, cond, ◌&&◌}
 use mathlib.Core.List.{List, [], ◌∷◌}
 use mathlib.Core.Path.{◌≡◌, refl, ◌∙◌, ap}
-use mathlib.Core.Option.{some}
+use Rattle.std.specs.Prelude.{Some}
 use lib.Dec.{leb}
 use borrow.Author.Tests.{le-leb, lt-leb, lt-ltb, le-ltb}
 use Rattle.rounding.specs.Round.{multiple}
@@ -27,11 +27,11 @@ module _ (cs : List Chunk) (offset old d : ℕ) where
   stays-near l = by-test (refute _ (λ t. true-false (and_right (at_pointer cs offset) _ t) (lt-leb ((old + 1) / 2) d l)))
 
   pub goes-up : at_pointer cs offset ≡ true → (old + 1) / 2 ≤ d →
-      shrunk_in_place cs offset old d ≡ some (record { offset = offset + d; chunks = moved_to cs (offset + d) })
+      shrunk_in_place cs offset old d ≡ Some (record { offset = offset + d; chunks = moved_to cs (offset + d) })
   unfolding at_pointer moved_up moved_to
   goes-up t l = by-test (and_both t (le-leb ((old + 1) / 2) d l)) ∙ up cs t
     where
-      up : (ds : List Chunk) → at_pointer ds offset ≡ true → moved_up ds offset d ≡ some (record { offset = offset + d; chunks = moved_to ds (offset + d) })
+      up : (ds : List Chunk) → at_pointer ds offset ≡ true → moved_up ds offset d ≡ Some (record { offset = offset + d; chunks = moved_to ds (offset + d) })
       up [] u = absurd (true-false u refl)
       up (c ∷ ds) u = refl
 

@@ -4,7 +4,7 @@ use native.Mathlib.Nat.{le_refl}
 use native.Mathlib.Omega.{arith}
 use mathlib.Core.Bool.{Bool, true, false, cond, not, ◌&&◌, ◌||◌}
 use mathlib.Core.List.{List, [], ◌∷◌}
-use mathlib.Core.Option.{Option, none, some}
+use Rattle.std.specs.Prelude.{Option, None, Some}
 use mathlib.Core.Path.{◌≡◌, refl, sym, ap, ◌∙◌}
 use lib.Dec.{ltb, eqb}
 use lib.ListN.{length}
@@ -83,17 +83,17 @@ module _ (a : Arena) (sound : sound_of a ≡ true) where
   standing : Standing a.head (held_of a)
   standing = sound-standing (sound-open a sound)
 
-  given-sound : (r : Option Refusal) (o : Option Taken) → ((t : Taken) → r ≡ none → o ≡ some t → Standing a.head t.chunks) →
+  given-sound : (r : Option Refusal) (o : Option Taken) → ((t : Taken) → r ≡ None → o ≡ Some t → Standing a.head t.chunks) →
       sound_of (given r a o).arena ≡ true
   unfolding given
-  given-sound (some r) o h = sound
-  given-sound none none h = sound
-  given-sound none (some t) h = sound-shut (standing-sound (h t refl refl))
+  given-sound (Some r) o h = sound
+  given-sound None None h = sound
+  given-sound None (Some t) h = sound-shut (standing-sound (h t refl refl))
 
-  answered-sound : (r : Option Refusal) (cs : List Chunk) → (r ≡ none → Standing a.head cs) → sound_of (answered r a (holding a.head cs)).arena ≡ true
+  answered-sound : (r : Option Refusal) (cs : List Chunk) → (r ≡ None → Standing a.head cs) → sound_of (answered r a (holding a.head cs)).arena ≡ true
   unfolding answered
-  answered-sound (some r) cs h = sound
-  answered-sound none cs h = sound-shut (standing-sound (h refl))
+  answered-sound (Some r) cs h = sound
+  answered-sound None cs h = sound-shut (standing-sound (h refl))
 
   pub allocate-sound : (lent size align : ℕ) → sound_of (allocate_of a lent size align).arena ≡ true
   unfolding allocate_of

@@ -14,8 +14,6 @@ use Rattle.arena.specs.declared.Arena.{Arena}
 use Rattle.arena.specs.declared.Chunk.{Chunk}
 use Rattle.arena.specs.Record.{held_of}
 use Rattle.arena.proofs.Standing.{sound-standing}
-use Rattle.calls.specs.declared.Given.{Given}
-use Rattle.calls.specs.declared.Given.TheVariants.{At, Refused}
 use Rattle.calls.specs.Bytes.{written, part, carried, after_given}
 use Rattle.calls.specs.Tests.{acceptable}
 use Rattle.calls.specs.Allocate.{allocate_of}
@@ -32,6 +30,8 @@ use Rattle.calls.proofs.Changing.{grow-served, shrink-served}
 use Rattle.calls.proofs.Resizing.{resize-served}
 use Rattle.calls.proofs.Results.{given-at}
 use Rattle.calls.proofs.Reserved.{lies-unreserved}
+use Rattle.arena.specs.Refusals.{Given}
+use Rattle.std.specs.Prelude.{Err, Ok}
 
 module _ {cs : List Chunk} (bytes others : List ℕ) (alike : Alike cs bytes others) where
   -- the same bytes written over both
@@ -70,7 +70,7 @@ module _ {cs : List Chunk} (bytes others : List ℕ) (alike : Alike cs bytes oth
 
 -- a call answers by the region's length, which is the same of both
 never-read : (cs : List Chunk) (answer : ℕ → Given) (make : List ℕ → ℕ → List ℕ) →
-    ((bytes others : List ℕ) → Alike cs bytes others → (to : ℕ) → answer (length bytes) ≡ At to → Alike cs (make bytes to) (make others to)) →
+    ((bytes others : List ℕ) → Alike cs bytes others → (to : ℕ) → answer (length bytes) ≡ Ok to → Alike cs (make bytes to) (make others to)) →
     (bytes others : List ℕ) → Alike cs bytes others →
     Alike cs (after_given (answer (length bytes)) (make bytes) bytes) (after_given (answer (length others)) (make others) others)
 unfolding after_given
@@ -79,8 +79,8 @@ never-read cs answer make served bytes others alike =
     (go (answer (length bytes)) refl)
   where
     go : (g : Given) → answer (length bytes) ≡ g → Alike cs (after_given g (make bytes) bytes) (after_given g (make others) others)
-    go (At to) e = served bytes others alike to e
-    go (Refused r) e = alike
+    go (Ok to) e = served bytes others alike to e
+    go (Err r) e = alike
 
 module _ (a : Arena) where
   -- no byte of a block that is accepted is reserved
@@ -92,7 +92,7 @@ module _ (a : Arena) where
 
   module _ (offset old old_align new new_align : ℕ) where
     grown-alike : (bytes others : List ℕ) → Alike (held_of a) bytes others → (to : ℕ) →
-        (grow_of a (length bytes) offset old old_align new new_align).answer ≡ At to →
+        (grow_of a (length bytes) offset old old_align new new_align).answer ≡ Ok to →
         Alike (held_of a) (carried bytes offset to old) (carried others offset to old)
     unfolding grow_of
     grown-alike bytes others alike to e =
@@ -134,7 +134,7 @@ module _ (a : Arena) where
   resize-never-read offset old align new =
       never-read (held_of a) (λ lent. (resize_of a lent offset old align new).answer) (λ bytes to. carried bytes offset to (min old new)) resized-alike
     where
-      resized-alike : (bytes others : List ℕ) → Alike (held_of a) bytes others → (to : ℕ) → (resize_of a (length bytes) offset old align new).answer ≡ At to →
+      resized-alike : (bytes others : List ℕ) → Alike (held_of a) bytes others → (to : ℕ) → (resize_of a (length bytes) offset old align new).answer ≡ Ok to →
           Alike (held_of a) (carried bytes offset to (min old new)) (carried others offset to (min old new))
       resized-alike bytes others alike to e = ⊎_elim none-carried some-carried (eq-zero-or-pos old)
         where

@@ -1,13 +1,14 @@
 -- What written and carried bytes read as, byte by byte. The reading of each byte settles a list (`written_is`, `carried-is`), so the other
 -- laws follow by arithmetic on offsets. Assumes nothing.
 use mathlib.Core.Path.{◌≡◌, refl, sym, ap, ◌∙◌}
-use mathlib.Core.List.{List, [], ◌++◌}
+use mathlib.Core.List.{List, [], ◌++◌, append_assoc}
 use Prim.Native.Nat.{ℕ, ◌+◌, ◌-◌, ◌≤◌, ◌<◌}
 use native.Mathlib.Nat.{add-zero}
 use native.Mathlib.Omega.{arith}
 use native.Mathlib.Decide.{dec_le, dec_lt}
-use lib.ListN.{length, get_or, take, drop, set, length-append, length-take, length-drop, length-set, take-append-drop, get_or-append}
-use lib.Seq.{length-take-le, take-append_seam, drop_at, drop-drop, get_or-append-add, get_or-take, get_or-drop, get_or-set_same, get_or-set_other, ext_get_or}
+use lib.ListN.{length, get_or, take, drop, length-append, length-take, length-drop, take-append-drop, get_or-append}
+use lib.Seq.{length-take-le, take-append_seam, drop_at, drop-drop, get_or-append-add, get_or-take, get_or-drop, ext_get_or}
+use Rattle.std.specs.List.{copy_within}
 use Rattle.calls.specs.Bytes.{written, part, carried}
 
 pub length_part : (bytes : List ℕ) (at n : ℕ) → at + n ≤ length bytes → length (part bytes at n) ≡ n
@@ -141,81 +142,13 @@ pub carried-stays : (bytes : List ℕ) (at n : ℕ) → at + n ≤ length bytes 
 carried-stays bytes at n h =
     sym (carried-is bytes at at n h h bytes refl (λ x low high. ap (λ (k : ℕ). get_or bytes k 0) (omega arith)) (λ x apart. refl))
 
--- to read a byte and store it is to carry one
-pub carried-one : (bytes : List ℕ) (from to : ℕ) → from < length bytes → to < length bytes
-    → set bytes to (get_or bytes from 0) ≡ carried bytes from to 1
-carried-one bytes from to f t =
-    carried-is bytes from to 1 (omega arith) (omega arith) (set bytes to (get_or bytes from 0)) (length-set bytes to (get_or bytes from 0))
-    (λ x low high.
-    ap (λ (k : ℕ). get_or (set bytes to (get_or bytes from 0)) k 0) (omega arith)
-    ∙ get_or-set_same bytes to (get_or bytes from 0) 0 t
-    ∙ ap (λ (k : ℕ). get_or bytes k 0) (omega arith))
-    (λ x apart. get_or-set_other bytes to x (get_or bytes from 0) 0 (λ e. apart (omega arith) (omega arith)))
-
-module _ (bytes : List ℕ) (from to i k : ℕ) (source : from + (i + k) ≤ length bytes) (room : to + (i + k) ≤ length bytes) where
-  -- downwards the first i bytes may go before the k after them
-  pub carried_first : to ≤ from → carried (carried bytes from to i) (from + i) (to + i) k ≡ carried bytes from to (i + k)
-  carried_first down =
-      carried-is bytes from to (i + k) source room (carried first (from + i) (to + i) k)
-      (length-carried first (from + i) (to + i) k source' room' ∙ same)
-      (λ x low high. go x low high (dec_lt x (to + i)))
-      (λ x apart.
-      carried-elsewhere first (from + i) (to + i) k source' room' x (λ l h. apart (omega arith) (omega arith))
-      ∙ carried-elsewhere bytes from to i (omega arith) (omega arith) x (λ l h. apart l (omega arith)))
-    where
-      first : List ℕ
-      first = carried bytes from to i
-
-      same : length first ≡ length bytes
-      same = length-carried bytes from to i (omega arith) (omega arith)
-
-      source' : from + i + k ≤ length first
-      source' = omega (arith, same)
-
-      room' : to + i + k ≤ length first
-      room' = omega (arith, same)
-
-      go : (x : ℕ) → to ≤ x → x < to + (i + k) → Dec (x < to + i)
-          → get_or (carried first (from + i) (to + i) k) x 0 ≡ get_or bytes (from + (x - to)) 0
-      go x low high (yes early) =
-          carried-elsewhere first (from + i) (to + i) k source' room' x (omega arith)
-          ∙ carried-within bytes from to i (omega arith) (omega arith) x low early
-      go x low high (no late) =
-          carried-within first (from + i) (to + i) k source' room' x (omega arith) (omega arith)
-          ∙ carried-elsewhere bytes from to i (omega arith) (omega arith) (from + i + (x - (to + i))) (omega arith)
-          ∙ ap (λ (k : ℕ). get_or bytes k 0) (omega arith)
-
-  -- upwards the last k bytes may go before the i in front of them
-  pub carried-last : from ≤ to → carried (carried bytes (from + i) (to + i) k) from to i ≡ carried bytes from to (i + k)
-  carried-last up =
-      carried-is bytes from to (i + k) source room (carried last from to i)
-      (length-carried last from to i source' room' ∙ same)
-      (λ x low high. go x low high (dec_lt x (to + i)))
-      (λ x apart.
-      carried-elsewhere last from to i source' room' x (λ l h. apart l (omega arith))
-      ∙ carried-elsewhere bytes (from + i) (to + i) k (omega arith) (omega arith) x (λ l h. apart (omega arith) (omega arith)))
-    where
-      last : List ℕ
-      last = carried bytes (from + i) (to + i) k
-
-      same : length last ≡ length bytes
-      same = length-carried bytes (from + i) (to + i) k (omega arith) (omega arith)
-
-      source' : from + i ≤ length last
-      source' = omega (arith, same)
-
-      room' : to + i ≤ length last
-      room' = omega (arith, same)
-
-      go : (x : ℕ) → to ≤ x → x < to + (i + k) → Dec (x < to + i)
-          → get_or (carried last from to i) x 0 ≡ get_or bytes (from + (x - to)) 0
-      go x low high (yes early) =
-          carried-within last from to i source' room' x low early
-          ∙ carried-elsewhere bytes (from + i) (to + i) k (omega arith) (omega arith) (from + (x - to)) (omega arith)
-      go x low high (no late) =
-          carried-elsewhere last from to i source' room' x (omega arith)
-          ∙ carried-within bytes (from + i) (to + i) k (omega arith) (omega arith) x (omega arith) (omega arith)
-          ∙ ap (λ (k : ℕ). get_or bytes k 0) (omega arith)
+-- what the library moves within a list is carried
+pub moved-carried : (bytes : List ℕ) (from to n : ℕ) → from + n ≤ length bytes → copy_within bytes from (from + n) to ≡ carried bytes from to n
+unfolding carried written
+moved-carried bytes from to n h =
+    let long = length_part bytes from n h in
+    let same : from + n - from ≡ n = omega arith in
+    rw (same, long) (append_assoc (take to bytes) (part bytes from n) (drop (to + n) bytes))
 
 -- to read a block whole and then to write it is to carry it
 pub carried-block : (bytes : List ℕ) (from to k : ℕ) {block after : List ℕ} → block ≡ part bytes from k → after ≡ written bytes to block

@@ -1,6 +1,5 @@
 -- Document 01, "Allocate".
-use Rattle.std.specs.Prelude.{ℕ, ◌-◌, max, Bool, false, ◌&&◌, List, [], ◌∷◌, leb, eqb}
-use Rattle.std.proofs.Math.Option.{Option, none, some, map}
+use Rattle.std.specs.Prelude.{ℕ, ◌-◌, max, Bool, false, ◌&&◌, List, [], ◌∷◌, leb, eqb, Option, None, Some, option_map, Err, Ok}
 use Rattle.rounding.specs.First.{only}
 use Rattle.rounding.specs.Round.{round_down, round_up}
 use Rattle.arena.specs.declared.Head.{Head}
@@ -9,11 +8,9 @@ use Rattle.arena.specs.declared.Chunk.{Chunk}
 use Rattle.arena.specs.declared.Refusal.{Refusal}
 use Rattle.arena.specs.declared.Refusal.TheVariants.{Room}
 use Rattle.arena.specs.Record.{with_pointer, held_of, holding}
-use Rattle.arena.specs.Refusals.{Test, refused_by}
+use Rattle.arena.specs.Refusals.{Test, refused_by, Allocation}
 use Rattle.arena.specs.Sound.{state_test}
 use Rattle.arena.specs.Ladder.{ladder}
-use Rattle.calls.specs.declared.Given.TheVariants.{At, Refused}
-use Rattle.calls.specs.declared.Allocation.{Allocation}
 use Rattle.calls.specs.Tests.{region_test, size_test, align_test}
 
 -- a block's offset, and the held chunks once it is given
@@ -40,28 +37,28 @@ chunk_gives minimum c size align =
     (round_down c.pointer align - needed minimum size align)
 
 unfoldable pub current_gives : ℕ → List Chunk → ℕ → ℕ → Option Taken
-current_gives minimum [] size align = none
+current_gives minimum [] size align = None
 current_gives minimum (c ∷ cs) size align =
-    map (λ p. record { offset = p; chunks = with_pointer c p ∷ cs }) (chunk_gives minimum c size align)
+    option_map (λ p. record { offset = p; chunks = with_pointer c p ∷ cs }) (chunk_gives minimum c size align)
 
 -- a new chunk becomes current, and gives the block
 unfoldable pub new_chunk_gives : ℕ → List Chunk → Option Chunk → ℕ → ℕ → Option Taken
-new_chunk_gives minimum cs none size align = none
-new_chunk_gives minimum cs (some c) size align = current_gives minimum (c ∷ cs) size align
+new_chunk_gives minimum cs None size align = None
+new_chunk_gives minimum cs (Some c) size align = current_gives minimum (c ∷ cs) size align
 
 -- "Otherwise the ladder"
 unfoldable pub or_ladder : Head → List Chunk → ℕ → ℕ → Option Taken → Option Taken
-or_ladder h cs size align (some taken) = some taken
-or_ladder h cs size align none = new_chunk_gives h.minimum cs (ladder h cs size align) size align
+or_ladder h cs size align (Some taken) = Some taken
+or_ladder h cs size align None = new_chunk_gives h.minimum cs (ladder h cs size align) size align
 
 unfoldable pub allocate_in : Head → List Chunk → ℕ → ℕ → Option Taken
 allocate_in h cs size align = or_ladder h cs size align (current_gives h.minimum cs size align)
 
 -- what a call that gives out a block answers: its refusal, ROOM where "the rules serve nothing", or the block
 unfoldable pub given : Option Refusal → Arena → Option Taken → Allocation
-given (some r) a taken = record { answer = Refused r; arena = a }
-given none a none = record { answer = Refused Room; arena = a }
-given none a (some t) = record { answer = At t.offset; arena = holding a.head t.chunks }
+given (Some r) a taken = record { answer = Err r; arena = a }
+given None a None = record { answer = Err Room; arena = a }
+given None a (Some t) = record { answer = Ok t.offset; arena = holding a.head t.chunks }
 
 abbrev pub request_tests : Arena → ℕ → ℕ → ℕ → List Test
 request_tests a lent size align = state_test a ∷ (region_test a lent ∷ (size_test size ∷ (align_test align ∷ [])))

@@ -1,7 +1,6 @@
 -- The region's bytes after a call: "No call changes any byte but the destination of a copy, fill or clear".
-use Rattle.std.specs.Prelude.{ℕ, ◌+◌, List, ◌++◌, length, take, drop}
-use Rattle.calls.specs.declared.Given.{Given}
-use Rattle.calls.specs.declared.Given.TheVariants.{At, Refused}
+use Rattle.std.specs.Prelude.{ℕ, ◌+◌, List, ◌++◌, length, take, drop, Err, Ok}
+use Rattle.arena.specs.Refusals.{Given}
 
 -- the bytes with these written from an offset on
 unfoldable pub written : List ℕ → ℕ → List ℕ → List ℕ
@@ -21,5 +20,5 @@ carried bytes from to n = written bytes to (part bytes from n)
 
 -- the bytes after a call: what serving makes of them at the given offset, or, refused, as they were
 unfoldable pub after_given : Given → (ℕ → List ℕ) → List ℕ → List ℕ
-after_given (At offset) make bytes = make offset
-after_given (Refused r) make bytes = bytes
+after_given (Ok offset) make bytes = make offset
+after_given (Err r) make bytes = bytes

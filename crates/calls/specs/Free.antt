@@ -1,5 +1,5 @@
 -- Document 01, "Free".
-use Rattle.std.specs.Prelude.{ℕ, ◌+◌, cond, List, [], ◌∷◌, eqb}
+use Rattle.std.specs.Prelude.{ℕ, ◌+◌, cond, List, [], ◌∷◌, eqb, ⊤}
 use Rattle.rounding.specs.Round.{round_up}
 use Rattle.arena.specs.declared.Arena.{Arena}
 use Rattle.arena.specs.declared.Chunk.{Chunk}
@@ -19,7 +19,7 @@ abbrev pub free_tests : Arena → ℕ → ℕ → ℕ → List Test
 free_tests a offset size align =
     state_test a ∷ (size_test size ∷ (align_test align ∷ (block_test (held_of a) offset size align ∷ [])))
 
-unfoldable pub free_of : Arena → ℕ → ℕ → ℕ → Outcome
+unfoldable pub free_of : Arena → ℕ → ℕ → ℕ → Outcome ⊤
 free_of a offset size align =
     answered (refused_by (free_tests a offset size align)) a
     (holding a.head (freed a.head.minimum (held_of a) offset size))

@@ -1,15 +1,13 @@
 -- Document 01, "Grow".
-use Rattle.std.specs.Prelude.{ℕ, ◌+◌, ◌-◌, ◌&&◌, cond, List, [], ◌∷◌, length, replicate, leb, ltb}
-use Rattle.std.proofs.Math.Option.{Option, none, some}
+use Rattle.std.specs.Prelude.{ℕ, ◌+◌, ◌-◌, ◌&&◌, cond, List, [], ◌∷◌, length, replicate, leb, ltb, Option, None, Some}
 use Rattle.rounding.specs.Round.{round_up}
 use Rattle.arena.specs.declared.Head.{Head}
 use Rattle.arena.specs.declared.Arena.{Arena}
 use Rattle.arena.specs.declared.Chunk.{Chunk}
 use Rattle.arena.specs.declared.Refusal.TheVariants.{Direction}
 use Rattle.arena.specs.Record.{held_of}
-use Rattle.arena.specs.Refusals.{Test, test, refused_by}
+use Rattle.arena.specs.Refusals.{Test, test, refused_by, Allocation}
 use Rattle.arena.specs.Sound.{state_test}
-use Rattle.calls.specs.declared.Allocation.{Allocation}
 use Rattle.calls.specs.Bytes.{written, carried, after_given}
 use Rattle.calls.specs.Tests.{region_test, sizes_test, aligns_test, block_test}
 use Rattle.calls.specs.Allocate.{Taken, at_pointer, current_gives, allocate_in, given}
@@ -18,12 +16,12 @@ use Rattle.calls.specs.Allocate.{Taken, at_pointer, current_gives, allocate_in, 
 -- old size) at the old alignment; the result is the new block"
 unfoldable pub grown_in_place : ℕ → List Chunk → ℕ → ℕ → ℕ → ℕ → ℕ → Option Taken
 grown_in_place minimum cs offset old old_align new new_align =
-    cond (leb new_align old_align && at_pointer cs offset) (current_gives minimum cs (round_up new minimum - old) old_align) none
+    cond (leb new_align old_align && at_pointer cs offset) (current_gives minimum cs (round_up new minimum - old) old_align) None
 
 -- "Otherwise, or if that doesn't fit, allocate afresh by the new layout"
 unfoldable pub or_afresh : Head → List Chunk → ℕ → ℕ → Option Taken → Option Taken
-or_afresh h cs size align (some taken) = some taken
-or_afresh h cs size align none = allocate_in h cs size align
+or_afresh h cs size align (Some taken) = Some taken
+or_afresh h cs size align None = allocate_in h cs size align
 
 unfoldable pub grow_in : Head → List Chunk → ℕ → ℕ → ℕ → ℕ → ℕ → Option Taken
 grow_in h cs offset old old_align new new_align =

@@ -1,10 +1,8 @@
 -- What the contracts between our own functions say. Nothing of document 01 is decided here, and no function that a user calls cites it.
-use Rattle.std.specs.Prelude.{ℕ, ◌+◌, ◌-◌, ◌≤◌, ◌≡◌, Bool, true, ◌&&◌, cond, List, [], ◌∷◌, leb}
-use Rattle.std.proofs.Math.Option.{Option, none, some}
+use Rattle.std.specs.Prelude.{ℕ, ◌+◌, ◌-◌, ◌≤◌, ◌≡◌, Bool, true, ◌&&◌, cond, List, [], ◌∷◌, leb, Option, None, Some, Ok, ⊤}
 use Rattle.rounding.specs.Round.{round_up}
 use Rattle.arena.specs.declared.Arena.{Arena}
 use Rattle.arena.specs.declared.Chunk.{Chunk}
-use Rattle.arena.specs.declared.Answer.{Answer}
 use Rattle.arena.specs.declared.Outcome.{Outcome}
 use Rattle.arena.specs.declared.change.Change.{Change}
 use Rattle.arena.specs.declared.change.Change.TheVariants.{Moved}
@@ -12,30 +10,20 @@ use Rattle.arena.specs.declared.Refusal.TheVariants.{Direction}
 use Rattle.arena.specs.Inner.{changed_by}
 use Rattle.arena.specs.Numbers.{most}
 use Rattle.arena.specs.Record.{held_of}
-use Rattle.arena.specs.Refusals.{Test, test, refused_by}
+use Rattle.arena.specs.Refusals.{Test, test, refused_by, Allocation, Answer}
 use Rattle.arena.specs.Sound.{allowed_align, sound_of, state_test}
-use Rattle.calls.specs.declared.Allocation.{Allocation}
-use Rattle.calls.specs.declared.Given.TheVariants.{At}
-use Rattle.calls.specs.declared.Placed.{Placed}
-use Rattle.calls.specs.declared.Ended.{Ended}
+use Rattle.calls.specs.declared.Answered.{Answered}
 use Rattle.calls.specs.declared.Token.{Token}
 use Rattle.calls.specs.declared.TokenAllocation.{TokenAllocation}
 use Rattle.calls.specs.declared.TokenPlaced.{TokenPlaced}
-use Rattle.calls.specs.declared.fast.Fast.{Fast}
-use Rattle.calls.specs.declared.fast.Fast.TheVariants.{Room, Full}
 use Rattle.calls.specs.Allocate.{at_pointer, chunk_gives}
 use Rattle.calls.specs.Token.{token_given}
 use Rattle.calls.specs.Tests.{acceptable, region_test, size_test, sizes_test, align_test, aligns_test, block_test}
 use Rattle.calls.specs.Write.{lend_answer}
 
--- the answer's case: a new pointer, or none
-unfoldable pub fast_of : Option ℕ → Fast
-fast_of (some p) = Room p
-fast_of none = Full
-
 -- the new pointer that the current chunk gives
 unfoldable pub current_pointer : ℕ → List Chunk → ℕ → ℕ → Option ℕ
-current_pointer minimum [] size align = none
+current_pointer minimum [] size align = None
 current_pointer minimum (c ∷ cs) size align = chunk_gives minimum c size align
 
 -- what has been tested of a record and a request before the inner calls
@@ -45,21 +33,15 @@ pub record Tested (a : Arena) (size align : ℕ) : Type 0 where
   pub align_allowed : allowed_align align ≡ true
 
 -- what an inner form's answer comes to, once its change is made
-abbrev pub placed_of : Arena → Placed → Allocation
-placed_of a placed = record { answer = placed.answer; arena = changed_by placed.change a }
+abbrev pub answered_of : {T : Type 0} → Arena → Answered T → Outcome T
+answered_of a got = record { answer = got.answer; arena = changed_by got.change a }
 
-abbrev pub PlacedBy : (Arena → Allocation) → Arena → Placed → Type 0
-PlacedBy call a placed = placed_of a placed ≡ call a
+abbrev pub AnsweredBy : {T : Type 0} → (Arena → Outcome T) → Arena → Answered T → Type 0
+AnsweredBy call a got = answered_of a got ≡ call a
 
 -- what the fast part of such a form answers: where it has a pointer, moving there is the whole call; where it has none, nothing is said
-abbrev pub FastBy : (Arena → Allocation) → Arena → Fast → Type 0
-FastBy call a fast = (p : ℕ) → fast ≡ Room p → PlacedBy call a (record { answer = At p; change = Moved p })
-
-abbrev pub ended_of : Arena → Ended → Outcome
-ended_of a ended = record { answer = ended.answer; arena = changed_by ended.change a }
-
-abbrev pub EndedBy : (Arena → Outcome) → Arena → Ended → Type 0
-EndedBy call a ended = ended_of a ended ≡ call a
+abbrev pub FastBy : (Arena → Allocation) → Arena → Option ℕ → Type 0
+FastBy call a fast = (p : ℕ) → fast ≡ Some p → AnsweredBy call a (record { answer = Ok p; change = Moved p })
 
 abbrev pub ChangedBy : (Arena → Arena) → Arena → Change → Type 0
 ChangedBy work a change = changed_by change a ≡ work a
@@ -100,7 +82,7 @@ pub record LastBlock (a : Arena) (offset size align : ℕ) : Type 0 where
 -- the pointer that a block at the current one goes down to when it grows in place
 unfoldable pub grown_pointer : ℕ → List Chunk → ℕ → ℕ → ℕ → ℕ → ℕ → Option ℕ
 grown_pointer minimum cs offset old old_align new new_align =
-    cond (leb new_align old_align && at_pointer cs offset) (current_pointer minimum cs (round_up new minimum - old) old_align) none
+    cond (leb new_align old_align && at_pointer cs offset) (current_pointer minimum cs (round_up new minimum - old) old_align) None
 
 -- what the work of a grow leans on, and that of a shrink: a tested request, and a block that lies in the region
 pub record GrowTested (a : Arena) (old old_align new new_align : ℕ) : Type 0 where

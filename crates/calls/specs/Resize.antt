@@ -1,14 +1,12 @@
 -- Document 01, "Resize" (`realloc`), which keeps the alignment.
-use Rattle.std.specs.Prelude.{ℕ, min, not, ◌&&◌, cond, List, [], ◌∷◌, length, leb, eqb}
-use Rattle.std.proofs.Math.Option.{Option}
+use Rattle.std.specs.Prelude.{ℕ, min, not, ◌&&◌, cond, List, [], ◌∷◌, length, leb, eqb, Option}
 use Rattle.arena.specs.declared.Head.{Head}
 use Rattle.arena.specs.declared.Arena.{Arena}
 use Rattle.arena.specs.declared.Chunk.{Chunk}
 use Rattle.arena.specs.declared.Refusal.TheVariants.{Block}
 use Rattle.arena.specs.Record.{held_of}
-use Rattle.arena.specs.Refusals.{Test, test, refused_by}
+use Rattle.arena.specs.Refusals.{Test, test, refused_by, Allocation}
 use Rattle.arena.specs.Sound.{state_test}
-use Rattle.calls.specs.declared.Allocation.{Allocation}
 use Rattle.calls.specs.Bytes.{carried, after_given}
 use Rattle.calls.specs.Tests.{region_test, sizes_test, align_test, acceptable}
 use Rattle.calls.specs.Allocate.{Taken, allocate_in, given}

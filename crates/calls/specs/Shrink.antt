@@ -1,22 +1,20 @@
 -- Document 01, "Shrink".
-use Rattle.std.specs.Prelude.{ℕ, ◌+◌, ◌-◌, ◌/◌, max, ◌&&◌, cond, List, [], ◌∷◌, length, leb, ltb}
-use Rattle.std.proofs.Math.Option.{Option, some}
+use Rattle.std.specs.Prelude.{ℕ, ◌+◌, ◌-◌, ◌/◌, max, ◌&&◌, cond, List, [], ◌∷◌, length, leb, ltb, Option, Some}
 use Rattle.rounding.specs.Round.{multiple, round_down}
 use Rattle.arena.specs.declared.Head.{Head}
 use Rattle.arena.specs.declared.Arena.{Arena}
 use Rattle.arena.specs.declared.Chunk.{Chunk}
 use Rattle.arena.specs.declared.Refusal.TheVariants.{Direction}
 use Rattle.arena.specs.Record.{with_pointer, held_of}
-use Rattle.arena.specs.Refusals.{Test, test, refused_by}
+use Rattle.arena.specs.Refusals.{Test, test, refused_by, Allocation}
 use Rattle.arena.specs.Sound.{state_test}
-use Rattle.calls.specs.declared.Allocation.{Allocation}
 use Rattle.calls.specs.Bytes.{carried, after_given}
 use Rattle.calls.specs.Tests.{region_test, sizes_test, aligns_test, block_test}
 use Rattle.calls.specs.Allocate.{Taken, at_pointer, allocate_in, given}
 
 -- the block stays where it is
 abbrev pub stays : List Chunk → ℕ → Option Taken
-stays cs offset = some (record { offset = offset; chunks = cs })
+stays cs offset = Some (record { offset = offset; chunks = cs })
 
 -- "d = (old - new) rounded down to max(new align, minimum)"
 abbrev pub given_up : ℕ → ℕ → ℕ → ℕ → ℕ
@@ -25,7 +23,7 @@ given_up minimum old new new_align = round_down (old - new) (max new_align minim
 -- the pointer and the block at it go up by d
 unfoldable pub moved_up : List Chunk → ℕ → ℕ → Option Taken
 moved_up [] offset d = stays [] offset
-moved_up (c ∷ cs) offset d = some (record { offset = offset + d; chunks = with_pointer c (offset + d) ∷ cs })
+moved_up (c ∷ cs) offset d = Some (record { offset = offset + d; chunks = with_pointer c (offset + d) ∷ cs })
 
 -- "At the current pointer with d >= (old + 1) / 2, rounded down: the pointer and block go up by d. Else same offset"
 unfoldable pub shrunk_in_place : List Chunk → ℕ → ℕ → ℕ → Option Taken

@@ -1,15 +1,13 @@
 -- Document 01, "Allocate with a token" and "Cancel".
-use Rattle.std.specs.Prelude.{ℕ, Bool, false, ◌&&◌, ◌||◌, not, cond, List, [], ◌∷◌, length, ltb, eqb}
+use Rattle.std.specs.Prelude.{ℕ, Bool, false, ◌&&◌, ◌||◌, not, cond, List, [], ◌∷◌, length, ltb, eqb, Err, Ok, ⊤}
 use Rattle.rounding.specs.Round.{multiple}
 use Rattle.arena.specs.declared.Arena.{Arena}
 use Rattle.arena.specs.declared.Chunk.{Chunk}
 use Rattle.arena.specs.declared.Outcome.{Outcome}
 use Rattle.arena.specs.declared.Refusal.TheVariants.{Token as TOKEN}
 use Rattle.arena.specs.Record.{end_of, with_pointer, held_of, holding}
-use Rattle.arena.specs.Refusals.{Test, test, refused_by, answered}
+use Rattle.arena.specs.Refusals.{Test, test, refused_by, answered, Given}
 use Rattle.arena.specs.Sound.{state_test}
-use Rattle.calls.specs.declared.Given.{Given}
-use Rattle.calls.specs.declared.Given.TheVariants.{At, Refused}
 use Rattle.calls.specs.declared.Token.{Token}
 use Rattle.calls.specs.declared.TokenAllocation.{TokenAllocation}
 use Rattle.calls.specs.Allocate.{allocate_of}
@@ -24,8 +22,8 @@ token_for (c ∷ cs) = token_of (length (c ∷ cs)) c.pointer
 
 -- a refused one says 0 and 0
 unfoldable pub token_given : Given → Token → Token
-token_given (At offset) token = token
-token_given (Refused r) token = token_of 0 0
+token_given (Ok offset) token = token
+token_given (Err r) token = token_of 0 0
 
 unfoldable pub with_token_of : Arena → ℕ → ℕ → ℕ → TokenAllocation
 with_token_of a lent size align =
@@ -57,6 +55,6 @@ rewound (c ∷ cs) offset token =
 abbrev pub cancel_tests : Arena → ℕ → Token → List Test
 cancel_tests a offset token = state_test a ∷ (test TOKEN (bad_token a.head.minimum (held_of a) offset token) ∷ [])
 
-unfoldable pub cancel_of : Arena → ℕ → Token → Outcome
+unfoldable pub cancel_of : Arena → ℕ → Token → Outcome ⊤
 cancel_of a offset token =
     answered (refused_by (cancel_tests a offset token)) a (holding a.head (rewound (held_of a) offset token))

@@ -1,12 +1,9 @@
 -- Document 01, "Copy in, fill" and "Lending a block".
-use Rattle.std.specs.Prelude.{ℕ, List, [], ◌∷◌, length, replicate}
-use Rattle.std.proofs.Math.Option.{Option, none, some}
+use Rattle.std.specs.Prelude.{ℕ, List, [], ◌∷◌, length, replicate, Option, None, Some, Err, Ok}
 use Rattle.arena.specs.declared.Arena.{Arena}
-use Rattle.arena.specs.declared.Answer.{Answer}
-use Rattle.arena.specs.declared.Answer.TheVariants.{Done, Refused}
 use Rattle.arena.specs.declared.Refusal.{Refusal}
 use Rattle.arena.specs.Record.{held_of}
-use Rattle.arena.specs.Refusals.{Test, refused_by}
+use Rattle.arena.specs.Refusals.{Test, refused_by, Answer}
 use Rattle.arena.specs.Sound.{state_test}
 use Rattle.calls.specs.Bytes.{written, part, after_given}
 use Rattle.calls.specs.Tests.{region_test, size_test, align_test, block_test}
@@ -27,18 +24,18 @@ lend_tests a lent offset size align =
 
 -- "a call beside it says the number"
 unfoldable pub lend_answer : Option Refusal → Answer
-lend_answer (some r) = Refused r
-lend_answer none = Done
+lend_answer (Some r) = Err r
+lend_answer None = Ok tt
 
 unfoldable pub lend_of : Arena → ℕ → ℕ → ℕ → ℕ → Answer
 lend_of a lent offset size align = lend_answer (refused_by (lend_tests a lent offset size align))
 
 -- "exactly those bytes; refused, the part lent is empty"
 unfoldable pub lent_part : Answer → List ℕ → ℕ → ℕ → List ℕ
-lent_part Done bytes offset size = part bytes offset size
-lent_part (Refused r) bytes offset size = []
+lent_part (Ok u) bytes offset size = part bytes offset size
+lent_part (Err r) bytes offset size = []
 
 -- "a block's own bytes": where the lent part begins in the region; refused, the empty part is at its beginning
 unfoldable pub lent_from : Answer → ℕ → ℕ
-lent_from Done offset = offset
-lent_from (Refused r) offset = 0
+lent_from (Ok u) offset = offset
+lent_from (Err r) offset = 0

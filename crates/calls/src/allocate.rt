@@ -1,163 +1,105 @@
 // Allocate: from the current chunk, else from a new one (`try_alloc_layout` in the Rust).
-ghost use Rattle.std.specs.Prelude.{◌≡◌, true, length};
-ghost use Rattle.std.proofs.Math.Option.{none, some};
-ghost use Rattle.arena.specs.Record.{record_of, held_of};
-ghost use Rattle.arena.specs.Sound.{sound_of};
+ghost use Rattle.std.specs.Prelude.{◌≡◌, true, ◌≤◌, length, None, Ok};
+ghost use Rattle.arena.specs.declared.change.Change.TheVariants.{Moved};
+ghost use Rattle.arena.specs.Numbers.{most};
+ghost use Rattle.arena.specs.Record.{held_of};
+ghost use Rattle.arena.specs.Sound.{allowed_align};
 ghost use Rattle.arena.specs.Ladder.{ladder};
+ghost use Rattle.arena.specs.Inner.{lent_of};
 ghost use Rattle.calls.specs.Allocate.{new_chunk_gives, given, allocate_of};
-ghost use Rattle.calls.specs.Inner.{FastBy, PlacedBy, Tested};
+ghost use Rattle.calls.specs.Inner.{FastBy, AnsweredBy};
 
-use crate::fast::{Fast, chunk_gives, current_gives};
-use crate::refusals::nowhere;
-use crate::{Allocation, Given, Placed};
-use arena::change::{Change, make};
-use arena::ladder::{NewChunk, climb};
-use arena::sound::{is_allowed_align, is_sound};
-use arena::{Arena, Chunk, Head, Refusal};
+use crate::Answered;
+use crate::fast::{chunk_gives, current_gives};
+use crate::refusals::lent_sound;
+use arena::change::Change;
+use arena::ladder::climb;
+use arena::sound::{Sound, is_allowed_align};
+use arena::{Arena, Chunk, Outcome, Refusal};
 
-// The record goes back as it came.
-pub fn refused(a: Arena, r: Refusal) -> Allocation
-    ensures { result ≡ given (some r) a none }
-{
-    Allocation {
-        answer: Given::Refused(r),
-        arena: a,
+impl Answered<usize> {
+    // A block at the pointer that the current chunk has then.
+    pub fn moved(p: usize) -> Self
+        ensures { result ≡ record { answer = Ok p; change = Moved p } }
+    {
+        Answered {
+            answer: Ok(p),
+            change: Change::Moved(p),
+        }
     }
 }
 
 // The ladder's part: a new chunk becomes current and gives the block.
-fn placed_slow<'a>(
-    h: Head,
-    starts: &'a [usize; 32],
-    sizes: &'a [usize; 32],
-    pointers: &'a [usize; 32],
-    size: usize,
-    align: usize,
-) -> Placed
-    requires { Tested (record_of h starts.now sizes.now pointers.now) size align }
-    ensures { PlacedBy (λ a. given none a (new_chunk_gives a.head.minimum (held_of a) (ladder a.head (held_of a) size align) size align)) (record_of h starts.now sizes.now pointers.now) result }
+fn placed_slow(a: &Sound, size: usize, align: usize) -> Answered<usize>
+    requires { (size ≤ most) × (allowed_align align ≡ true) }
+    ensures { AnsweredBy (λ r. given None r (new_chunk_gives r.head.minimum (held_of r) (ladder r.head (held_of r) size align) size align)) (lent_of a.now.lent) result }
 {
-    let NewChunk::Taken(c) = climb(h, starts, sizes, pointers, size, align) else {
-        return nowhere(Refusal::Room);
+    let Some(c) = climb(&a.lent, size, align) else {
+        return Answered::refused(Refusal::Room);
     };
-    let Fast::Room(p) = chunk_gives(h.minimum, c, size, align) else {
-        return nowhere(Refusal::Room);
+    let Some(pointer) = chunk_gives(a.lent.head.minimum, c, size, align) else {
+        return Answered::refused(Refusal::Room);
     };
-    let current = Chunk {
-        start: c.start,
-        size: c.size,
-        pointer: p,
-    };
-    Placed {
-        answer: Given::At(p),
-        change: Change::Added(current),
+    Answered {
+        answer: Ok(pointer),
+        change: Change::Added(Chunk { pointer, ..c }),
     }
 }
 
-// Every test and every way to serve, on a record that is known to be sound, lent its own region. It has several callers and is long, so that the compiler
-// leaves it a function of its own.
-pub fn allocate_in_full<'a>(
-    h: Head,
-    starts: &'a [usize; 32],
-    sizes: &'a [usize; 32],
-    pointers: &'a [usize; 32],
-    size: usize,
-    align: usize,
-) -> Placed
-    requires { sound_of (record_of h starts.now sizes.now pointers.now) ≡ true }
-    ensures { PlacedBy (λ a. allocate_of a a.head.region size align) (record_of h starts.now sizes.now pointers.now) result }
+// Every test and every way to serve, in the record's own region. It has several callers and is long, so that the compiler leaves it a function of its own.
+pub fn allocate_in_full(a: &Sound, size: usize, align: usize) -> Answered<usize>
+    ensures { AnsweredBy (λ r. allocate_of r r.head.region size align) (lent_of a.now.lent) result }
 {
     if Arena::MOST < size {
-        return nowhere(Refusal::Size);
+        return Answered::refused(Refusal::Size);
     }
     if !is_allowed_align(align) {
-        return nowhere(Refusal::Align);
+        return Answered::refused(Refusal::Align);
     }
-    let Fast::Room(p) = current_gives(h, starts, sizes, pointers, size, align) else {
-        return placed_slow(h, starts, sizes, pointers, size, align);
+    let Some(p) = current_gives(a, size, align) else {
+        return placed_slow(a, size, align);
     };
-    Placed {
-        answer: Given::At(p),
-        change: Change::Moved(p),
-    }
+    Answered::moved(p)
 }
 
 // The current chunk's block, where nothing refuses the request.
-pub fn allocate_fast<'a>(
-    h: Head,
-    starts: &'a [usize; 32],
-    sizes: &'a [usize; 32],
-    pointers: &'a [usize; 32],
-    size: usize,
-    align: usize,
-) -> Fast
-    requires { sound_of (record_of h starts.now sizes.now pointers.now) ≡ true }
-    ensures { FastBy (λ a. allocate_of a a.head.region size align) (record_of h starts.now sizes.now pointers.now) result }
+pub fn allocate_fast(a: &Sound, size: usize, align: usize) -> Option<usize>
+    ensures { FastBy (λ r. allocate_of r r.head.region size align) (lent_of a.now.lent) result }
 {
-    if h.count == 0 {
-        return Fast::Full;
+    if a.lent.head.count == 0 {
+        return None;
     }
     if Arena::MOST < size {
-        return Fast::Full;
+        return None;
     }
     if !is_allowed_align(align) {
-        return Fast::Full;
+        return None;
     }
-    current_gives(h, starts, sizes, pointers, size, align)
+    current_gives(a, size, align)
 }
 
-// The same as in full. It is short, so that the compiler puts it into its callers; the head that the long way is lent is a copy made on that way alone, or
-// each call would store one.
-pub fn allocate_placed<'a>(
-    h: Head,
-    starts: &'a [usize; 32],
-    sizes: &'a [usize; 32],
-    pointers: &'a [usize; 32],
-    size: usize,
-    align: usize,
-) -> Placed
-    requires { sound_of (record_of h starts.now sizes.now pointers.now) ≡ true }
-    ensures { PlacedBy (λ a. allocate_of a a.head.region size align) (record_of h starts.now sizes.now pointers.now) result }
+// The same as in full. It is short, so that the compiler puts it into its callers; the record that the long way is lent is a copy made on that way alone, or each
+// call would store its parts.
+pub fn allocate_placed(a: &Sound, size: usize, align: usize) -> Answered<usize>
+    ensures { AnsweredBy (λ r. allocate_of r r.head.region size align) (lent_of a.now.lent) result }
 {
-    let Fast::Room(p) = allocate_fast(h, starts, sizes, pointers, size, align) else {
-        let copy = Head {
-            region: h.region,
-            minimum: h.minimum,
-            limited: h.limited,
-            limit: h.limit,
-            count: h.count,
-        };
-        return allocate_in_full(copy, starts, sizes, pointers, size, align);
+    let Some(p) = allocate_fast(a, size, align) else {
+        let copy = *a;
+        return allocate_in_full(&copy, size, align);
     };
-    Placed {
-        answer: Given::At(p),
-        change: Change::Moved(p),
-    }
+    Answered::moved(p)
 }
 
-// The columns are taken out of the record once and changed there: a record that is lent and then changed would be copied twice more.
-pub fn allocate(a: Arena, region: &[u8], size: usize, align: usize) -> Allocation
+pub fn allocate(a: Arena, region: &[u8], size: usize, align: usize) -> Outcome<usize>
     ensures { result ≡ allocate_of a (length region.now) size align }
 {
-    let head = a.head;
-    let mut starts = a.starts;
-    let mut sizes = a.sizes;
-    let mut pointers = a.pointers;
-    if !is_sound(head, &starts, &sizes, &pointers) {
-        return refused(a, Refusal::State);
-    }
-    if region.len() != head.region {
-        return refused(a, Refusal::Region);
-    }
-    let placed = allocate_placed(head, &starts, &sizes, &pointers, size, align);
-    let answer = placed.answer;
-    let change = placed.change;
-    let head = make(head, &mut starts, &mut sizes, &mut pointers, change);
-    let arena = Arena {
-        head,
-        starts,
-        sizes,
-        pointers,
+    let sound = match lent_sound(a.lent(), region.len()) {
+        Ok(sound) => sound,
+        Err(r) => return Outcome::refused(a, r),
     };
-    Allocation { answer, arena }
+    let got = allocate_placed(&sound, size, align);
+    Outcome {
+        answer: got.answer,
+        arena: a.changed(got.change),
+    }
 }

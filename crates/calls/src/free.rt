@@ -1,89 +1,49 @@
 // Free (`dealloc` in the Rust). Only the bytes of the block at the current pointer can be given out again; those of any other block wait for a reset.
-ghost use Rattle.std.specs.Prelude.{◌≡◌, true, ◌+◌, ◌≤◌};
-ghost use Rattle.arena.specs.declared.Answer.TheVariants.{Refused};
-ghost use Rattle.arena.specs.Record.{record_of, held_of, holding};
-ghost use Rattle.arena.specs.Sound.{sound_of};
+ghost use Rattle.std.specs.Prelude.{◌≡◌, ◌+◌, ◌≤◌};
+ghost use Rattle.arena.specs.Record.{held_of, holding};
+ghost use Rattle.arena.specs.Inner.{lent_of};
 ghost use Rattle.calls.specs.Free.{freed, free_of};
-ghost use Rattle.calls.specs.Inner.{EndedBy, ChangedBy};
+ghost use Rattle.calls.specs.Inner.{AnsweredBy, ChangedBy};
 
-use crate::Ended;
+use crate::Answered;
 use crate::block::is_at_pointer;
-use crate::refusals::{block_answer, unended};
-use arena::change::{Change, make};
-use arena::sound::is_sound;
-use arena::{Answer, Arena, Head, Outcome, Refusal};
+use crate::refusals::block_answer;
+use arena::change::Change;
+use arena::sound::Sound;
+use arena::{Arena, Outcome, Refusal};
 
-// The record goes back as it came.
-fn refused(a: Arena, r: Refusal) -> Outcome
-    ensures { result ≡ record { answer = Refused r; arena = a } }
+// The work, of a block that lies in the region. The pointer goes past the block's own bytes only: what its alignment took beyond them stays unused.
+fn free_tested(a: &Sound, offset: usize, size: usize) -> Change
+    requires { offset + size ≤ a.now.lent.head.region }
+    ensures { ChangedBy (λ r. holding r.head (freed r.head.minimum (held_of r) offset size)) (lent_of a.now.lent) result }
 {
-    Outcome {
-        answer: Answer::Refused(r),
-        arena: a,
-    }
-}
-
-// The work, on a record that is known to be sound and a block that lies in the region. The pointer goes past the block's own bytes only: what its alignment
-// took beyond them stays unused.
-fn free_tested<'a>(
-    h: Head,
-    starts: &'a [usize; 32],
-    sizes: &'a [usize; 32],
-    pointers: &'a [usize; 32],
-    offset: usize,
-    size: usize,
-) -> Change
-    requires { (sound_of (record_of h starts.now sizes.now pointers.now) ≡ true) × (offset + size ≤ h.region) }
-    ensures { ChangedBy (λ a. holding a.head (freed a.head.minimum (held_of a) offset size)) (record_of h starts.now sizes.now pointers.now) result }
-{
-    if !is_at_pointer(h, starts, sizes, pointers, offset) {
+    if !is_at_pointer(a, offset) {
         return Change::Same;
     }
-    Change::Moved(rounding::up_to_power(offset + size, h.minimum))
+    Change::Moved(rounding::up_to_power(offset + size, a.lent.head.minimum))
 }
 
-// On a record that is known to be sound.
-pub fn free_ended<'a>(
-    h: Head,
-    starts: &'a [usize; 32],
-    sizes: &'a [usize; 32],
-    pointers: &'a [usize; 32],
-    offset: usize,
-    size: usize,
-    align: usize,
-) -> Ended
-    requires { sound_of (record_of h starts.now sizes.now pointers.now) ≡ true }
-    ensures { EndedBy (λ a. free_of a offset size align) (record_of h starts.now sizes.now pointers.now) result }
+pub fn free_ended(a: &Sound, offset: usize, size: usize, align: usize) -> Answered<()>
+    ensures { AnsweredBy (λ r. free_of r offset size align) (lent_of a.now.lent) result }
 {
-    if let Answer::Refused(r) = block_answer(h, starts, sizes, pointers, offset, size, align) {
-        return unended(r);
+    if let Err(r) = block_answer(a, offset, size, align) {
+        return Answered::refused(r);
     }
-    let change = free_tested(h, starts, sizes, pointers, offset, size);
-    Ended {
-        answer: Answer::Done,
-        change,
+    Answered {
+        answer: Ok(()),
+        change: free_tested(a, offset, size),
     }
 }
 
-pub fn free(a: Arena, offset: usize, size: usize, align: usize) -> Outcome
+pub fn free(a: Arena, offset: usize, size: usize, align: usize) -> Outcome<()>
     ensures { result ≡ free_of a offset size align }
 {
-    let head = a.head;
-    let mut starts = a.starts;
-    let mut sizes = a.sizes;
-    let mut pointers = a.pointers;
-    if !is_sound(head, &starts, &sizes, &pointers) {
-        return refused(a, Refusal::State);
-    }
-    let ended = free_ended(head, &starts, &sizes, &pointers, offset, size, align);
-    let answer = ended.answer;
-    let change = ended.change;
-    let head = make(head, &mut starts, &mut sizes, &mut pointers, change);
-    let arena = Arena {
-        head,
-        starts,
-        sizes,
-        pointers,
+    let Some(sound) = a.sound() else {
+        return Outcome::refused(a, Refusal::State);
     };
-    Outcome { answer, arena }
+    let ended = free_ended(&sound, offset, size, align);
+    Outcome {
+        answer: ended.answer,
+        arena: a.changed(ended.change),
+    }
 }

@@ -3,28 +3,30 @@ ghost use Rattle.std.specs.Prelude.{◌≡◌, length};
 ghost use Rattle.calls.specs.Bytes.{stands_at};
 ghost use Rattle.calls.specs.Write.{lend_of, lent_part, lent_from};
 
-use crate::refusals::{block_answer, lent_answer};
-use arena::{Answer, Arena};
+use crate::refusals::{block_answer, lent_sound};
+use arena::{Arena, Refusal};
 
 // By the region's length, which is all that the tests read of it.
-fn answer_of(a: Arena, lent: usize, offset: usize, size: usize, align: usize) -> Answer
+fn answer_of(
+    a: Arena,
+    lent: usize,
+    offset: usize,
+    size: usize,
+    align: usize,
+) -> Result<(), Refusal>
     ensures { result ≡ lend_of a lent offset size align }
 {
-    if let Answer::Refused(r) = lent_answer(a.head, &a.starts, &a.sizes, &a.pointers, lent) {
-        return Answer::Refused(r);
-    }
-    block_answer(
-        a.head,
-        &a.starts,
-        &a.sizes,
-        &a.pointers,
-        offset,
-        size,
-        align,
-    )
+    let sound = lent_sound(a.lent(), lent)?;
+    block_answer(&sound, offset, size, align)
 }
 
-pub fn lend_answer(a: Arena, region: &[u8], offset: usize, size: usize, align: usize) -> Answer
+pub fn lend_answer(
+    a: Arena,
+    region: &[u8],
+    offset: usize,
+    size: usize,
+    align: usize,
+) -> Result<(), Refusal>
     ensures { result ≡ lend_of a (length region.now) offset size align }
 {
     answer_of(a, region.len(), offset, size, align)
@@ -41,7 +43,7 @@ pub fn lend<'r>(
     ensures ref_ptr_value { result.ref_ptr ≡ stands_at region.entry.ref_ptr (lent_from (lend_of a (length region.old) offset size align) offset) }
 {
     let answer = answer_of(a, region.len(), offset, size, align);
-    if let Answer::Refused(_) = answer {
+    if let Err(_) = answer {
         return &mut region[0..0];
     }
     let end = offset + size;

@@ -12,37 +12,17 @@ pub mod refusals;
 pub mod write;
 
 use arena::change::Change;
-use arena::{Answer, Arena, Refusal};
+use arena::{Arena, Refusal};
 
-// What a call that gives out a block answers.
+// What the inner form of a call answers, and what it changes in the record, which stays with its holder.
 #[derive(Clone, Copy)]
-pub enum Given {
-    At(usize),
-    Refused(Refusal),
-}
-
-#[derive(Clone, Copy)]
-pub struct Allocation {
-    pub answer: Given,
-    pub arena: Arena,
-}
-
-// What the inner form of such a call answers: the block, and what changes in the record, which stays with its holder.
-#[derive(Clone, Copy)]
-pub struct Placed {
-    pub answer: Given,
+pub struct Answered<T> {
+    pub answer: Result<T, Refusal>,
     pub change: Change,
 }
 
-// The same of a call that ends a block.
-#[derive(Clone, Copy)]
-pub struct Ended {
-    pub answer: Answer,
-    pub change: Change,
-}
-
-// What allocate with a token records: the chunk count and the current pointer before it.
-#[derive(Clone, Copy)]
+// What allocate with a token records: the chunk count and the current pointer before it; by default 0 and 0, as a refused one says.
+#[derive(Clone, Copy, Default)]
 pub struct Token {
     pub count: usize,
     pub pointer: usize,
@@ -50,14 +30,14 @@ pub struct Token {
 
 #[derive(Clone, Copy)]
 pub struct TokenPlaced {
-    pub answer: Given,
+    pub answer: Result<usize, Refusal>,
     pub token: Token,
     pub change: Change,
 }
 
 #[derive(Clone, Copy)]
 pub struct TokenAllocation {
-    pub answer: Given,
+    pub answer: Result<usize, Refusal>,
     pub token: Token,
     pub arena: Arena,
 }

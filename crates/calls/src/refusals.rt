@@ -1,115 +1,96 @@
 // The tests that calls share, in the order of the refusals' numbers. Each function answers the first refusal that applies, or that none does. They only read, so
-// the record is lent in parts. And what an inner form answers that refuses.
-ghost use Rattle.std.specs.Prelude.{◌≡◌, true};
-ghost use Rattle.arena.specs.Record.{record_of};
-ghost use Rattle.arena.specs.Sound.{sound_of};
-ghost use Rattle.arena.specs.declared.Answer.TheVariants.{Refused as Refused·answer};
+// the record is lent. And what an inner form answers that refuses.
+ghost use Rattle.std.specs.Prelude.{◌≡◌, IfOk, IfErr, Err};
 ghost use Rattle.arena.specs.declared.change.Change.TheVariants.{Same};
-ghost use Rattle.calls.specs.declared.Given.TheVariants.{Refused};
+ghost use Rattle.arena.specs.Inner.{lent_of};
 ghost use Rattle.calls.specs.Inner.{lent_tests, block_tests, change_tests, first_of};
 
+use crate::Answered;
 use crate::block::is_acceptable;
-use crate::{Ended, Given, Placed};
 use arena::change::Change;
-use arena::sound::{is_allowed_align, is_sound};
-use arena::{Answer, Arena, Head, Refusal};
+use arena::lent::Lent;
+use arena::sound::{Sound, is_allowed_align};
+use arena::{Arena, Refusal};
 
-// STATE and REGION, of a call that is lent bytes.
-pub fn lent_answer<'a>(
-    h: Head,
-    starts: &'a [usize; 32],
-    sizes: &'a [usize; 32],
-    pointers: &'a [usize; 32],
-    lent: usize,
-) -> Answer
-    ensures { result ≡ first_of (lent_tests (record_of h starts.now sizes.now pointers.now) lent) }
+// STATE and REGION, of a call that is lent bytes, which goes on with a record that is known to be sound.
+pub fn lent_sound<'a>(a: Lent<'a>, lent: usize) -> Result<Sound<'a>, Refusal>
+    ensures ok { IfOk result (λ s. (s.lent ≡ a.entry) × (lent ≡ a.entry.head.region)) }
+    ensures err { IfErr result (λ r. first_of (lent_tests (lent_of a.entry) lent) ≡ Err r) }
 {
-    if !is_sound(h, starts, sizes, pointers) {
-        return Answer::Refused(Refusal::State);
+    let Some(sound) = a.sound() else {
+        return Err(Refusal::State);
+    };
+    if lent != a.head.region {
+        return Err(Refusal::Region);
     }
-    if lent != h.region {
-        return Answer::Refused(Refusal::Region);
-    }
-    Answer::Done
+    Ok(sound)
 }
 
-// SIZE, ALIGN and BLOCK, of a call that names a block of a sound record.
-pub fn block_answer<'a>(
-    h: Head,
-    starts: &'a [usize; 32],
-    sizes: &'a [usize; 32],
-    pointers: &'a [usize; 32],
-    offset: usize,
-    size: usize,
-    align: usize,
-) -> Answer
-    requires { sound_of (record_of h starts.now sizes.now pointers.now) ≡ true }
-    ensures { result ≡ first_of (block_tests (record_of h starts.now sizes.now pointers.now) offset size align) }
+// The same answer alone.
+pub fn lent_answer(a: Lent, lent: usize) -> Result<(), Refusal>
+    ensures { result ≡ first_of (lent_tests (lent_of a.entry) lent) }
+{
+    lent_sound(a, lent)?;
+    Ok(())
+}
+
+// SIZE, ALIGN and BLOCK, of a call that names a block.
+pub fn block_answer(a: &Sound, offset: usize, size: usize, align: usize) -> Result<(), Refusal>
+    ensures { result ≡ first_of (block_tests (lent_of a.now.lent) offset size align) }
 {
     if Arena::MOST < size {
-        return Answer::Refused(Refusal::Size);
+        return Err(Refusal::Size);
     }
     if !is_allowed_align(align) {
-        return Answer::Refused(Refusal::Align);
+        return Err(Refusal::Align);
     }
-    if !is_acceptable(h, starts, sizes, pointers, offset, size, align) {
-        return Answer::Refused(Refusal::Block);
+    if !is_acceptable(&a.lent, offset, size, align) {
+        return Err(Refusal::Block);
     }
-    Answer::Done
+    Ok(())
 }
 
 // SIZE, ALIGN, BLOCK and DIRECTION, of a call that asks for another size or alignment of such a block.
-pub fn change_answer<'a>(
-    h: Head,
-    starts: &'a [usize; 32],
-    sizes: &'a [usize; 32],
-    pointers: &'a [usize; 32],
+pub fn change_answer(
+    a: &Sound,
     offset: usize,
     old: usize,
     old_align: usize,
     new: usize,
     new_align: usize,
     backwards: bool,
-) -> Answer
-    requires { sound_of (record_of h starts.now sizes.now pointers.now) ≡ true }
-    ensures { result ≡ first_of (change_tests (record_of h starts.now sizes.now pointers.now) offset old old_align new new_align backwards) }
+) -> Result<(), Refusal>
+    ensures { result ≡ first_of (change_tests (lent_of a.now.lent) offset old old_align new new_align backwards) }
 {
     if Arena::MOST < old {
-        return Answer::Refused(Refusal::Size);
+        return Err(Refusal::Size);
     }
     if Arena::MOST < new {
-        return Answer::Refused(Refusal::Size);
+        return Err(Refusal::Size);
     }
     if !is_allowed_align(old_align) {
-        return Answer::Refused(Refusal::Align);
+        return Err(Refusal::Align);
     }
     if !is_allowed_align(new_align) {
-        return Answer::Refused(Refusal::Align);
+        return Err(Refusal::Align);
     }
-    if !is_acceptable(h, starts, sizes, pointers, offset, old, old_align) {
-        return Answer::Refused(Refusal::Block);
+    if !is_acceptable(&a.lent, offset, old, old_align) {
+        return Err(Refusal::Block);
     }
     if backwards {
-        return Answer::Refused(Refusal::Direction);
+        return Err(Refusal::Direction);
     }
-    Answer::Done
+    Ok(())
 }
 
-// No block, and the record stays as it is.
-pub fn nowhere(r: Refusal) -> Placed
-    ensures { result ≡ record { answer = Refused r; change = Same } }
-{
-    Placed {
-        answer: Given::Refused(r),
-        change: Change::Same,
-    }
-}
-
-pub fn unended(r: Refusal) -> Ended
-    ensures { result ≡ record { answer = Refused·answer r; change = Same } }
-{
-    Ended {
-        answer: Answer::Refused(r),
-        change: Change::Same,
+impl<T> Answered<T> {
+    // The record stays as it is.
+    pub fn refused(r: Refusal) -> Self
+        ensures { result ≡ record { answer = Err r; change = Same } }
+    {
+        Answered {
+            answer: Err(r),
+            change: Change::Same,
+        }
     }
 }

@@ -9,10 +9,9 @@ mod tape;
 use crate::digest::{DIGEST, digest_of, set_weights};
 use crate::tape::{Code, RECORD, number, write_pattern};
 use arena::{Arena, Outcome, Refusal};
-use calls::{Allocation, Token, TokenAllocation};
+use calls::{Token, TokenAllocation};
 use std::io;
 use std::io::{Read, Write};
-use trial::number::{number_of, offset_of, refusal_of};
 use trial::table::{Retrying, read_full};
 
 const DONE: usize = 4294967295;
@@ -45,7 +44,7 @@ struct Turn {
 }
 
 fn refused(r: Refusal) -> usize {
-    REFUSED + number_of(r)
+    REFUSED + r.number()
 }
 
 fn answered(arena: Arena, answer: Result<usize, Refusal>, token: Token) -> Turn {
@@ -56,20 +55,16 @@ fn answered(arena: Arena, answer: Result<usize, Refusal>, token: Token) -> Turn 
     }
 }
 
-fn done(got: Outcome) -> Turn {
-    answered(
-        got.arena,
-        refusal_of(got.answer).map_or(Ok(DONE), Err),
-        NONE,
-    )
+fn done(got: Outcome<()>) -> Turn {
+    answered(got.arena, got.answer.map(|()| DONE), NONE)
 }
 
-fn given(got: Allocation) -> Turn {
-    answered(got.arena, offset_of(got.answer), NONE)
+fn given(got: Outcome<usize>) -> Turn {
+    answered(got.arena, got.answer, NONE)
 }
 
 fn given_with_token(got: TokenAllocation) -> Turn {
-    answered(got.arena, offset_of(got.answer), got.token)
+    answered(got.arena, got.answer, got.token)
 }
 
 fn copy_in(

@@ -1,449 +1,261 @@
-// Turns of calls on a record that was found sound once and is changed in place. Each tests what its call tests of its numbers.
+// Turns of calls on a record that is found sound once and is changed in place; and turns of that test alone. Each tests what its call tests of its numbers.
 //
-// What needs a block is given one in the same turn, so a second call with its tests is its turn less that of the first call, `allocate_turns` or `token_turns`.
-// `*_tests` go as far as the tests, so the work that is left once they are done is the call's turn less those.
+// What needs a block is given one in the same turn, so a second call with its tests is its turn less that of the first call, `allocate` or
+// `allocate_with_token` with nothing after it. `*_tests` go as far as the tests, so the work that is left once they are done is the call's turn less those.
 //
 // A second call names the block by numbers of the list, and by the offset that was answered, changed by a number of the list that is 0: that it is the
 // block at the pointer is not known when the program is compiled.
-ghost use Rattle.std.specs.Prelude.{◌≡◌, true, ◌≤◌, ◌<◌, length};
+ghost use Rattle.std.specs.Prelude.{◌≡◌, true, length};
 ghost use Rattle.arena.specs.Sound.{sound_of};
+ghost use Rattle.arena.specs.Inner.{lent_of};
+ghost use Rattle.cost.specs.Turns.{Keeps};
 
+use crate::Work;
 use arena::change::{Change, make};
-use arena::sound::is_sound;
-use arena::{Answer, Arena};
+use arena::lent::Lent;
+use arena::sound::{Sound, is_sound};
+use arena::{Arena, Refusal};
 use calls::allocate::allocate_placed;
 use calls::block::is_last_block;
 use calls::free::free_ended;
-use calls::refusals::block_answer;
-use calls::{Given, Token};
+use calls::refusals::{block_answer, lent_sound};
+use calls::{Answered, Token};
 use reshape::grow::grow_placed;
 use reshape::shrink::shrink_placed;
 use takeback::tokens::{allocate_with_token_placed, cancel_ended, is_bad_token};
 
-// What a turn asks for first.
+// The numbers of a turn: what it asks for first, what its second call names and asks for, and nothing, which is 0.
 #[derive(Clone, Copy)]
-struct First {
-    size: usize,
-    align: usize,
+pub struct Numbers {
+    pub size: usize,
+    pub align: usize,
+    pub old: usize,
+    pub old_align: usize,
+    pub new: usize,
+    pub new_align: usize,
+    pub nothing: usize,
 }
 
-fn first_of(numbers: &[usize; 1024], turn: usize) -> First
-    requires { turn < 128 }
+fn allocate(a: &Sound, n: &Numbers) -> Answered<usize>
+    ensures { Keeps (lent_of a.now.lent) result.change }
 {
-    let i = 8 * turn;
-    First {
-        size: numbers[i],
-        align: numbers[i + 1],
+    allocate_placed(a, n.size, n.align)
+}
+
+// Put into its callers, or each turn would store and load what it answers.
+#[inline]
+fn allocate_with_token(a: &Sound, n: &Numbers) -> Answered<(usize, Token)>
+    ensures { Keeps (lent_of a.now.lent) result.change }
+{
+    let got = allocate_with_token_placed(a, n.size, n.align);
+    Answered {
+        answer: got.answer.map(|at| (at, got.token)),
+        change: got.change,
     }
 }
 
-// What its second call names and asks for; nothing is 0.
-#[derive(Clone, Copy)]
-struct Second {
-    old: usize,
-    old_align: usize,
-    new: usize,
-    new_align: usize,
-    nothing: usize,
+fn free(a: &Sound, _region: &mut [u8], at: usize, n: &Numbers) -> Answered<()>
+    ensures { Keeps (lent_of a.now.lent) result.change }
+{
+    free_ended(a, at ^ n.nothing, n.old, n.old_align)
 }
 
-fn second_of(numbers: &[usize; 1024], turn: usize) -> Second
-    requires { turn < 128 }
+fn grow(a: &Sound, region: &mut [u8], at: usize, n: &Numbers) -> Answered<usize>
+    requires { length region.old ≡ a.now.lent.head.region }
+    ensures { Keeps (lent_of a.now.lent) result.change }
 {
-    let i = 8 * turn;
-    Second {
-        old: numbers[i + 2],
-        old_align: numbers[i + 3],
-        new: numbers[i + 4],
-        new_align: numbers[i + 5],
-        nothing: numbers[i + 6],
+    grow_placed(
+        a,
+        region,
+        at ^ n.nothing,
+        n.old,
+        n.old_align,
+        n.new,
+        n.new_align,
+    )
+}
+
+fn shrink(a: &Sound, region: &mut [u8], at: usize, n: &Numbers) -> Answered<usize>
+    requires { length region.old ≡ a.now.lent.head.region }
+    ensures { Keeps (lent_of a.now.lent) result.change }
+{
+    shrink_placed(
+        a,
+        region,
+        at ^ n.nothing,
+        n.old,
+        n.old_align,
+        n.new,
+        n.new_align,
+    )
+}
+
+fn cancel(a: &Sound, _region: &mut [u8], given: (usize, Token), n: &Numbers) -> Answered<()>
+    ensures { Keeps (lent_of a.now.lent) result.change }
+{
+    cancel_ended(a, given.0 ^ n.nothing, named(given.1, n))
+}
+
+// A token as a second call names it.
+fn named(token: Token, n: &Numbers) -> Token {
+    Token {
+        count: token.count ^ n.nothing,
+        pointer: token.pointer ^ n.nothing,
     }
 }
 
-fn allocate_turns(a: Arena, numbers: &[usize; 1024], turns: usize) -> usize
-    requires { (sound_of a ≡ true) × (turns ≤ 128) }
+fn reset<T: Copy>(_a: &Sound, _region: &mut [u8], _given: T, _n: &Numbers) -> Answered<()>
+    ensures { Keeps (lent_of _a.now.lent) result.change }
 {
-    let mut head = a.head;
-    let mut starts = a.starts;
-    let mut sizes = a.sizes;
-    let mut pointers = a.pointers;
-    for turn in 0..turns {
-        let n = first_of(numbers, turn);
-        let got = allocate_placed(head, &starts, &sizes, &pointers, n.size, n.align);
-        let answer = got.answer;
-        let Given::At(_) = answer else {
-            return turn;
-        };
-        let change = got.change;
-        head = make(head, &mut starts, &mut sizes, &mut pointers, change);
+    Answered {
+        answer: Ok(()),
+        change: Change::Kept,
     }
-    turns
 }
 
-fn free_turns(a: Arena, numbers: &[usize; 1024], turns: usize) -> usize
-    requires { (sound_of a ≡ true) × (turns ≤ 128) }
+// No second call, or one that goes as far as its tests.
+fn tested(_a: &Sound, passes: bool) -> Answered<()>
+    ensures { Keeps (lent_of _a.now.lent) result.change }
 {
-    let mut head = a.head;
-    let mut starts = a.starts;
-    let mut sizes = a.sizes;
-    let mut pointers = a.pointers;
-    for turn in 0..turns {
-        let n = first_of(numbers, turn);
-        let got = allocate_placed(head, &starts, &sizes, &pointers, n.size, n.align);
-        let answer = got.answer;
-        let Given::At(at) = answer else {
-            return turn;
-        };
-        let change = got.change;
-        head = make(head, &mut starts, &mut sizes, &mut pointers, change);
-        let m = second_of(numbers, turn);
-        let after = free_ended(
-            head,
-            &starts,
-            &sizes,
-            &pointers,
-            at ^ m.nothing,
-            m.old,
-            m.old_align,
-        );
-        let done = after.answer;
-        let Answer::Done = done else {
-            return turn;
-        };
-        let change = after.change;
-        head = make(head, &mut starts, &mut sizes, &mut pointers, change);
+    Answered {
+        answer: passes.then_some(()).ok_or(Refusal::Block),
+        change: Change::Same,
     }
-    turns
 }
 
-fn grow_turns(a: Arena, region: &mut [u8], numbers: &[usize; 1024], turns: usize) -> usize
-    requires { (sound_of a ≡ true) × (length region.old ≡ a.head.region) × (turns ≤ 128) }
+fn nothing<T: Copy>(a: &Sound, _region: &mut [u8], _given: T, _n: &Numbers) -> Answered<()>
+    ensures { Keeps (lent_of a.now.lent) result.change }
 {
-    let mut head = a.head;
-    let mut starts = a.starts;
-    let mut sizes = a.sizes;
-    let mut pointers = a.pointers;
-    for turn in 0..turns {
-        let n = first_of(numbers, turn);
-        let got = allocate_placed(head, &starts, &sizes, &pointers, n.size, n.align);
-        let answer = got.answer;
-        let Given::At(at) = answer else {
-            return turn;
-        };
-        let change = got.change;
-        head = make(head, &mut starts, &mut sizes, &mut pointers, change);
-        let m = second_of(numbers, turn);
-        let after = grow_placed(
-            head,
-            &starts,
-            &sizes,
-            &pointers,
-            region,
-            at ^ m.nothing,
-            m.old,
-            m.old_align,
-            m.new,
-            m.new_align,
-        );
-        let done = after.answer;
-        let Given::At(_) = done else {
-            return turn;
-        };
-        let change = after.change;
-        head = make(head, &mut starts, &mut sizes, &mut pointers, change);
-    }
-    turns
+    tested(a, true)
 }
 
-fn shrink_turns(a: Arena, region: &mut [u8], numbers: &[usize; 1024], turns: usize) -> usize
-    requires { (sound_of a ≡ true) × (length region.old ≡ a.head.region) × (turns ≤ 128) }
+fn free_tests(a: &Sound, _region: &mut [u8], at: usize, n: &Numbers) -> Answered<()>
+    ensures { Keeps (lent_of a.now.lent) result.change }
 {
-    let mut head = a.head;
-    let mut starts = a.starts;
-    let mut sizes = a.sizes;
-    let mut pointers = a.pointers;
-    for turn in 0..turns {
-        let n = first_of(numbers, turn);
-        let got = allocate_placed(head, &starts, &sizes, &pointers, n.size, n.align);
-        let answer = got.answer;
-        let Given::At(at) = answer else {
-            return turn;
-        };
-        let change = got.change;
-        head = make(head, &mut starts, &mut sizes, &mut pointers, change);
-        let m = second_of(numbers, turn);
-        let after = shrink_placed(
-            head,
-            &starts,
-            &sizes,
-            &pointers,
-            region,
-            at ^ m.nothing,
-            m.old,
-            m.old_align,
-            m.new,
-            m.new_align,
-        );
-        let done = after.answer;
-        let Given::At(_) = done else {
-            return turn;
-        };
-        let change = after.change;
-        head = make(head, &mut starts, &mut sizes, &mut pointers, change);
-    }
-    turns
+    tested(
+        a,
+        block_answer(a, at ^ n.nothing, n.old, n.old_align).is_ok(),
+    )
 }
 
-fn token_turns(a: Arena, numbers: &[usize; 1024], turns: usize) -> usize
-    requires { (sound_of a ≡ true) × (turns ≤ 128) }
+// Of the numbers that a second call asks for, those of the same alignment.
+fn grow_tests(a: &Sound, _region: &mut [u8], at: usize, n: &Numbers) -> Answered<()>
+    ensures { Keeps (lent_of a.now.lent) result.change }
 {
-    let mut head = a.head;
-    let mut starts = a.starts;
-    let mut sizes = a.sizes;
-    let mut pointers = a.pointers;
-    for turn in 0..turns {
-        let n = first_of(numbers, turn);
-        let got = allocate_with_token_placed(head, &starts, &sizes, &pointers, n.size, n.align);
-        let answer = got.answer;
-        let Given::At(_) = answer else {
-            return turn;
-        };
-        let change = got.change;
-        head = make(head, &mut starts, &mut sizes, &mut pointers, change);
-    }
-    turns
+    tested(
+        a,
+        n.old <= n.new
+            && n.new_align == n.old_align
+            && is_last_block(a, at ^ n.nothing, n.old, n.old_align),
+    )
 }
 
-fn cancel_turns(a: Arena, numbers: &[usize; 1024], turns: usize) -> usize
-    requires { (sound_of a ≡ true) × (turns ≤ 128) }
+fn shrink_tests(a: &Sound, _region: &mut [u8], at: usize, n: &Numbers) -> Answered<()>
+    ensures { Keeps (lent_of a.now.lent) result.change }
 {
-    let mut head = a.head;
-    let mut starts = a.starts;
-    let mut sizes = a.sizes;
-    let mut pointers = a.pointers;
-    for turn in 0..turns {
-        let n = first_of(numbers, turn);
-        let got = allocate_with_token_placed(head, &starts, &sizes, &pointers, n.size, n.align);
-        let answer = got.answer;
-        let Given::At(at) = answer else {
-            return turn;
-        };
-        let change = got.change;
-        head = make(head, &mut starts, &mut sizes, &mut pointers, change);
-        let m = second_of(numbers, turn);
-        let token = Token {
-            count: got.token.count ^ m.nothing,
-            pointer: got.token.pointer ^ m.nothing,
-        };
-        let after = cancel_ended(head, &starts, &sizes, &pointers, at ^ m.nothing, token);
-        let done = after.answer;
-        let Answer::Done = done else {
-            return turn;
-        };
-        let change = after.change;
-        head = make(head, &mut starts, &mut sizes, &mut pointers, change);
-    }
-    turns
+    tested(
+        a,
+        n.new <= n.old
+            && n.new_align == n.old_align
+            && is_last_block(a, at ^ n.nothing, n.old, n.old_align),
+    )
 }
 
-fn reset_turns(a: Arena, numbers: &[usize; 1024], turns: usize) -> usize
-    requires { (sound_of a ≡ true) × (turns ≤ 128) }
+fn cancel_tests(a: &Sound, _region: &mut [u8], given: (usize, Token), n: &Numbers) -> Answered<()>
+    ensures { Keeps (lent_of a.now.lent) result.change }
 {
-    let mut head = a.head;
-    let mut starts = a.starts;
-    let mut sizes = a.sizes;
-    let mut pointers = a.pointers;
-    for turn in 0..turns {
-        let n = first_of(numbers, turn);
-        let got = allocate_placed(head, &starts, &sizes, &pointers, n.size, n.align);
-        let answer = got.answer;
-        let Given::At(_) = answer else {
-            return turn;
-        };
-        let change = got.change;
-        head = make(head, &mut starts, &mut sizes, &mut pointers, change);
-        head = make(head, &mut starts, &mut sizes, &mut pointers, Change::Kept);
-    }
-    turns
+    tested(a, !is_bad_token(a, given.0 ^ n.nothing, named(given.1, n)))
 }
 
-fn free_tests(a: Arena, numbers: &[usize; 1024], turns: usize) -> usize
-    requires { (sound_of a ≡ true) × (turns ≤ 128) }
+fn known<'a>(lent: Lent<'a>) -> Sound<'a>
+    requires { sound_of (lent_of lent) ≡ true }
+    ensures { result.lent ≡ lent.entry }
 {
-    let mut head = a.head;
-    let mut starts = a.starts;
-    let mut sizes = a.sizes;
-    let mut pointers = a.pointers;
-    for turn in 0..turns {
-        let n = first_of(numbers, turn);
-        let got = allocate_placed(head, &starts, &sizes, &pointers, n.size, n.align);
-        let answer = got.answer;
-        let Given::At(at) = answer else {
-            return turn;
-        };
-        let change = got.change;
-        head = make(head, &mut starts, &mut sizes, &mut pointers, change);
-        let m = second_of(numbers, turn);
-        let tested = block_answer(
-            head,
-            &starts,
-            &sizes,
-            &pointers,
-            at ^ m.nothing,
-            m.old,
-            m.old_align,
-        );
-        let Answer::Done = tested else {
-            return turn;
-        };
-    }
-    turns
+    Sound { lent }
 }
 
-fn grow_tests(a: Arena, numbers: &[usize; 1024], turns: usize) -> usize
-    requires { (sound_of a ≡ true) × (turns ≤ 128) }
-{
-    let mut head = a.head;
-    let mut starts = a.starts;
-    let mut sizes = a.sizes;
-    let mut pointers = a.pointers;
-    for turn in 0..turns {
-        let n = first_of(numbers, turn);
-        let got = allocate_placed(head, &starts, &sizes, &pointers, n.size, n.align);
-        let answer = got.answer;
-        let Given::At(at) = answer else {
-            return turn;
-        };
-        let change = got.change;
-        head = make(head, &mut starts, &mut sizes, &mut pointers, change);
-        let m = second_of(numbers, turn);
-        if m.new < m.old {
-            return turn;
-        }
-        if m.new_align != m.old_align {
-            return turn;
-        }
-        if !is_last_block(
-            head,
-            &starts,
-            &sizes,
-            &pointers,
-            at ^ m.nothing,
-            m.old,
-            m.old_align,
-        ) {
-            return turn;
-        }
-    }
-    turns
-}
-
-fn shrink_tests(a: Arena, numbers: &[usize; 1024], turns: usize) -> usize
-    requires { (sound_of a ≡ true) × (turns ≤ 128) }
-{
-    let mut head = a.head;
-    let mut starts = a.starts;
-    let mut sizes = a.sizes;
-    let mut pointers = a.pointers;
-    for turn in 0..turns {
-        let n = first_of(numbers, turn);
-        let got = allocate_placed(head, &starts, &sizes, &pointers, n.size, n.align);
-        let answer = got.answer;
-        let Given::At(at) = answer else {
-            return turn;
-        };
-        let change = got.change;
-        head = make(head, &mut starts, &mut sizes, &mut pointers, change);
-        let m = second_of(numbers, turn);
-        if m.old < m.new {
-            return turn;
-        }
-        if m.new_align != m.old_align {
-            return turn;
-        }
-        if !is_last_block(
-            head,
-            &starts,
-            &sizes,
-            &pointers,
-            at ^ m.nothing,
-            m.old,
-            m.old_align,
-        ) {
-            return turn;
-        }
-    }
-    turns
-}
-
-fn cancel_tests(a: Arena, numbers: &[usize; 1024], turns: usize) -> usize
-    requires { (sound_of a ≡ true) × (turns ≤ 128) }
-{
-    let mut head = a.head;
-    let mut starts = a.starts;
-    let mut sizes = a.sizes;
-    let mut pointers = a.pointers;
-    for turn in 0..turns {
-        let n = first_of(numbers, turn);
-        let got = allocate_with_token_placed(head, &starts, &sizes, &pointers, n.size, n.align);
-        let answer = got.answer;
-        let Given::At(at) = answer else {
-            return turn;
-        };
-        let change = got.change;
-        head = make(head, &mut starts, &mut sizes, &mut pointers, change);
-        let m = second_of(numbers, turn);
-        let token = Token {
-            count: got.token.count ^ m.nothing,
-            pointer: got.token.pointer ^ m.nothing,
-        };
-        if is_bad_token(head, &starts, &sizes, &pointers, at ^ m.nothing, token) {
-            return turn;
-        }
-    }
-    turns
-}
-
-fn turns_of(
-    what: usize,
-    a: Arena,
+// How many turns were served before one was refused: each makes the change of a first call, and then that of a second one, which is told what the first
+// gave. None is on a record that is not sound, or is lent another region; that is tested once.
+fn turns<T: Copy, U: Copy, F, S>(
+    a: &Arena,
     region: &mut [u8],
-    numbers: &[usize; 1024],
-    turns: usize,
+    numbers: &[Numbers],
+    first: F,
+    second: S,
 ) -> usize
-    requires { (sound_of a ≡ true) × (length region.old ≡ a.head.region) × (turns ≤ 128) }
+where
+    F: Fn(&Sound, &Numbers) -> Answered<T>,
+    S: Fn(&Sound, &mut [u8], T, &Numbers) -> Answered<U>,
+    requires first_served { F.IsAlwaysCallable first }
+    requires first_keeps { (s : _) (n : _) (got : _) → F.post first s n got → Keeps (lent_of s.now.lent) got.change }
+    requires second_served { (s : _) (r : _) (given : _) (n : _) → length r.now ≡ s.now.lent.head.region → S.pre second s r given n }
+    requires second_keeps { (s : _) (r : _) (given : _) (n : _) (got : _) (q : _) → S.post second s r given n got q → Keeps (lent_of s.now.lent) got.change }
 {
-    match what {
-        1 => allocate_turns(a, numbers, turns),
-        2 => free_turns(a, numbers, turns),
-        3 => grow_turns(a, region, numbers, turns),
-        4 => shrink_turns(a, region, numbers, turns),
-        5 => token_turns(a, numbers, turns),
-        6 => cancel_turns(a, numbers, turns),
-        7 => reset_turns(a, numbers, turns),
-        12 => free_tests(a, numbers, turns),
-        13 => grow_tests(a, numbers, turns),
-        14 => shrink_tests(a, numbers, turns),
-        16 => cancel_tests(a, numbers, turns),
-        _ => 0,
+    let Ok(found) = lent_sound(a.lent(), region.len()) else {
+        return 0;
+    };
+    let mut head = found.lent.head;
+    let mut starts = *found.lent.starts;
+    let mut sizes = *found.lent.sizes;
+    let mut pointers = *found.lent.pointers;
+    for (turn, n) in numbers.iter().enumerate() {
+        let got = first(
+            &known(Lent {
+                head,
+                starts: &starts,
+                sizes: &sizes,
+                pointers: &pointers,
+            }),
+            n,
+        );
+        let Ok(given) = got.answer else {
+            return turn;
+        };
+        head = make(head, &mut starts, &mut sizes, &mut pointers, got.change);
+        let after = second(
+            &known(Lent {
+                head,
+                starts: &starts,
+                sizes: &sizes,
+                pointers: &pointers,
+            }),
+            region,
+            given,
+            n,
+        );
+        if after.answer.is_err() {
+            return turn;
+        }
+        head = make(head, &mut starts, &mut sizes, &mut pointers, after.change);
     }
+    numbers.len()
 }
 
-// The one test of the record and its region.
-pub fn served(
-    what: usize,
-    a: Arena,
-    region: &mut [u8],
-    numbers: &[usize; 1024],
-    turns: usize,
-) -> usize
-    requires { turns ≤ 128 }
-{
-    if !is_sound(a.head, &a.starts, &a.sizes, &a.pointers) {
-        return 0;
+// A pointer moves each turn.
+fn sound_turns(a: &Arena, turns: usize) -> usize {
+    let mut now = *a;
+    for turn in 0..turns {
+        now.pointers[0] = 15 + turn % 2;
+        if !is_sound(&now.lent()) {
+            return turn;
+        }
     }
-    if region.len() != a.head.region {
-        return 0;
+    turns
+}
+
+pub fn served(work: Work, a: &Arena, region: &mut [u8], numbers: &[Numbers]) -> usize {
+    match work {
+        Work::Sound => sound_turns(a, numbers.len()),
+        Work::Allocate => turns(a, region, numbers, allocate, nothing),
+        Work::Free => turns(a, region, numbers, allocate, free),
+        Work::Grow => turns(a, region, numbers, allocate, grow),
+        Work::Shrink => turns(a, region, numbers, allocate, shrink),
+        Work::Token => turns(a, region, numbers, allocate_with_token, nothing),
+        Work::Cancel => turns(a, region, numbers, allocate_with_token, cancel),
+        Work::Reset => turns(a, region, numbers, allocate, reset),
+        Work::FreeTests => turns(a, region, numbers, allocate, free_tests),
+        Work::GrowTests => turns(a, region, numbers, allocate, grow_tests),
+        Work::ShrinkTests => turns(a, region, numbers, allocate, shrink_tests),
+        Work::CancelTests => turns(a, region, numbers, allocate_with_token, cancel_tests),
     }
-    turns_of(what, a, region, numbers, turns)
 }

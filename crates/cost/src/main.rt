@@ -5,18 +5,57 @@
 // of it in one turn serves the next. The current chunk has room for 110 turns that take 48 bytes each.
 #![tactic(auto)]
 
-ghost use Rattle.std.specs.Prelude.{◌≡◌, ◌≤◌, ◌<◌};
+ghost use Rattle.std.specs.Prelude.{◌≤◌, ◌<◌};
 
 mod inner;
 
-use arena::sound::is_sound;
 use arena::{Arena, Head};
+use inner::Numbers;
 use std::env::Args;
 use std::{env, io};
 
 const REGION: usize = 8192;
 // As many turns as the list has numbers for.
 const MOST_TURNS: usize = 128;
+
+// What a turn does: the soundness test alone, a call on a sound record, or what such a call tests.
+#[derive(Clone, Copy)]
+pub enum Work {
+    Sound = 0,
+    Allocate = 1,
+    Free = 2,
+    Grow = 3,
+    Shrink = 4,
+    Token = 5,
+    Cancel = 6,
+    Reset = 7,
+    FreeTests = 12,
+    GrowTests = 13,
+    ShrinkTests = 14,
+    CancelTests = 16,
+}
+
+impl TryFrom<usize> for Work {
+    type Error = ();
+
+    fn try_from(number: usize) -> Result<Self, ()> {
+        match number {
+            0 => Ok(Work::Sound),
+            1 => Ok(Work::Allocate),
+            2 => Ok(Work::Free),
+            3 => Ok(Work::Grow),
+            4 => Ok(Work::Shrink),
+            5 => Ok(Work::Token),
+            6 => Ok(Work::Cancel),
+            7 => Ok(Work::Reset),
+            12 => Ok(Work::FreeTests),
+            13 => Ok(Work::GrowTests),
+            14 => Ok(Work::ShrinkTests),
+            16 => Ok(Work::CancelTests),
+            _ => Err(()),
+        }
+    }
+}
 
 fn digit(d: u8) -> usize
     ensures { result < 16 }
@@ -29,8 +68,8 @@ fn number(text: &[u8]) -> usize
     ensures { result < 1000000000 }
 {
     let mut n: usize = 0;
-    for i in 0..text.len() {
-        n = (n * 10 + digit(text[i])) % 1000000000;
+    for d in text {
+        n = (n * 10 + digit(*d)) % 1000000000;
     }
     n
 }
@@ -79,48 +118,6 @@ fn holding(chunks: usize) -> Arena
     out
 }
 
-// Number k of a turn: the size and the alignment asked for, those of the block that a second call names, those that it asks for, and two of 0.
-fn number_of_turn(k: usize, size: usize, align: usize, new: usize) -> usize {
-    match k {
-        0 => size,
-        1 => align,
-        2 => size,
-        3 => align,
-        4 => new,
-        5 => align,
-        _ => 0,
-    }
-}
-
-fn list(numbers: &mut [usize; 1024], size: usize, align: usize, new: usize) {
-    for i in 0..1024 {
-        numbers[i] = number_of_turn(i % 8, size, align, new);
-    }
-}
-
-// A pointer moves each turn.
-fn sound_turns(a: Arena, turns: usize) -> usize
-    requires { turns ≤ 128 }
-{
-    let mut now = a;
-    for turn in 0..turns {
-        now.pointers[0] = 15 + turn % 2;
-        if !is_sound(now.head, &now.starts, &now.sizes, &now.pointers) {
-            return turn;
-        }
-    }
-    turns
-}
-
-fn served(what: usize, a: Arena, region: &mut [u8], numbers: &[usize; 1024], turns: usize) -> usize
-    requires { turns ≤ 128 }
-{
-    if what == 0 {
-        return sound_turns(a, turns);
-    }
-    inner::served(what, a, region, numbers, turns)
-}
-
 fn main(rt: HostRuntime) -> io::Result<()> {
     let mut arguments = env::args(&rt)?;
     let _program = arguments.next();
@@ -137,8 +134,18 @@ fn main(rt: HostRuntime) -> io::Result<()> {
         return Ok(());
     }
     let mut region = [0u8; REGION];
-    let mut numbers = [0; 1024];
-    list(&mut numbers, size, align, new);
-    let found = served(what, holding(chunks), &mut region, &numbers, turns);
+    let numbers = [Numbers {
+        size,
+        align,
+        old: size,
+        old_align: align,
+        new,
+        new_align: align,
+        nothing: 0,
+    }; MOST_TURNS];
+    let found = match Work::try_from(what) {
+        Ok(work) => inner::served(work, &holding(chunks), &mut region, &numbers[..turns]),
+        Err(()) => 0,
+    };
     println!(rt; "{found}")
 }

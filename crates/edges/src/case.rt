@@ -4,14 +4,13 @@ use crate::store::{Planted, Store};
 use arena::{Arena, Refusal};
 use std::io;
 use std::io::Write;
-use trial::number::number_of;
 use trial::row::{Plant, current_pointer};
 
 fn show_answer<W: Write>(out: &mut W, answer: Result<Option<usize>, Refusal>) -> io::Result<()> {
     match answer {
         Ok(Some(offset)) => write!(out, ": at {offset}"),
         Ok(None) => write!(out, ": done"),
-        Err(r) => write!(out, ": refused {}", number_of(r)),
+        Err(r) => write!(out, ": refused {}", r.number()),
     }
 }
 

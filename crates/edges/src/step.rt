@@ -1,9 +1,8 @@
 // The steps that a case has: each call of document 01, what shows a store, and what changes it between calls.
 use crate::store::{Planted, Store};
 use arena::{Arena, Outcome, Refusal};
-use calls::{Allocation, Token, TokenAllocation};
+use calls::{Token, TokenAllocation};
 use std::fmt;
-use trial::number::{offset_of, refusal_of};
 use trial::row::Plant;
 
 // The numbers have no names, so that a case is a line.
@@ -110,10 +109,10 @@ pub struct Answered {
     pub written: Option<(usize, usize)>,
 }
 
-fn done(got: Outcome, s: &mut Store) -> Answered {
+fn done(got: Outcome<()>, s: &mut Store) -> Answered {
     s.arena = got.arena;
     Answered {
-        answer: refusal_of(got.answer).map_or(Ok(None), Err),
+        answer: got.answer.map(|()| None),
         token: None,
         lent: None,
         written: None,
@@ -121,19 +120,18 @@ fn done(got: Outcome, s: &mut Store) -> Answered {
 }
 
 // It may write so many bytes from its block's offset on.
-fn given(got: Allocation, size: usize, s: &mut Store) -> Answered {
+fn given(got: Outcome<usize>, size: usize, s: &mut Store) -> Answered {
     s.arena = got.arena;
-    let answer = offset_of(got.answer);
     Answered {
-        answer: answer.map(Some),
+        answer: got.answer.map(Some),
         token: None,
         lent: None,
-        written: answer.ok().map(|offset| (offset, size)),
+        written: got.answer.ok().map(|offset| (offset, size)),
     }
 }
 
 fn given_with_token(got: TokenAllocation, s: &mut Store) -> Answered {
-    let allocation = Allocation {
+    let allocation = Outcome {
         answer: got.answer,
         arena: got.arena,
     };
@@ -145,14 +143,14 @@ fn given_with_token(got: TokenAllocation, s: &mut Store) -> Answered {
 // What is lent is written on.
 fn lend(s: &mut Store, offset: usize, size: usize, align: usize) -> Answered {
     let a = s.arena;
-    let refusal = refusal_of(calls::lend::lend_answer(a, s.region(), offset, size, align));
+    let answer = calls::lend::lend_answer(a, s.region(), offset, size, align);
     let part = calls::lend::lend(a, s.region(), offset, size, align);
     part.fill(VALUE);
     Answered {
-        answer: refusal.map_or(Ok(None), Err),
+        answer: answer.map(|()| None),
         token: None,
         lent: Some(part.len()),
-        written: refusal.is_none().then_some((offset, size)),
+        written: answer.is_ok().then_some((offset, size)),
     }
 }
 

@@ -5,13 +5,10 @@ ghost use Rattle.calls.specs.Allocate.{allocate_of};
 ghost use Rattle.host.specs.Said.{said_given};
 ghost use Rattle.fast.specs.Parts.{head_of, parts_of};
 
-use crate::parts::{head_of, make_in_parts};
-use arena::Answer;
+use crate::parts::{lent_in, make_in_parts, sound_in};
 use calls::allocate::allocate_fast;
-use calls::fast::Fast;
 use calls::refusals::lent_answer;
 use host::Said;
-use host::answers::{said_given, said_refused};
 
 // Every way to serve or to refuse. It is long and has two callers, so that the compiler leaves it a function of its own.
 fn allocate_in_full(
@@ -26,18 +23,10 @@ fn allocate_in_full(
     ensures value { result ≡ said_given (allocate_of (parts_of head.old starts.old sizes.old pointers.old) (head_of head.old).region size align).answer }
     ensures pointers_after { parts_of head.new starts.new sizes.new pointers.new ≡ (allocate_of (parts_of head.old starts.old sizes.old pointers.old) (head_of head.old).region size align).arena }
 {
-    let got = calls::allocate::allocate_in_full(
-        head_of(head),
-        starts,
-        sizes,
-        pointers,
-        size,
-        align,
-    );
-    let answer = got.answer;
-    let change = got.change;
-    make_in_parts(head, starts, sizes, pointers, change);
-    said_given(answer)
+    let sound = sound_in(head, starts, sizes, pointers);
+    let got = calls::allocate::allocate_in_full(&sound, size, align);
+    make_in_parts(head, starts, sizes, pointers, got.change);
+    got.answer.into()
 }
 
 // Mostly the current chunk serves: then one number of the record changes, and nothing else is read or stored. No byte of the region is looked at, and its length
@@ -55,14 +44,15 @@ pub extern "C" fn miravoly_sound_allocate(
     ensures value { result ≡ said_given (allocate_of (parts_of head.old starts.old sizes.old pointers.old) (head_of head.old).region size align).answer }
     ensures pointers_after { parts_of head.new starts.new sizes.new pointers.new ≡ (allocate_of (parts_of head.old starts.old sizes.old pointers.old) (head_of head.old).region size align).arena }
 {
-    let h = head_of(head);
-    if h.count == 0 {
+    let sound = sound_in(head, starts, sizes, pointers);
+    let count = sound.lent.head.count;
+    if count == 0 {
         return allocate_in_full(head, starts, sizes, pointers, size, align);
     }
-    let Fast::Room(p) = allocate_fast(h, starts, sizes, pointers, size, align) else {
+    let Some(p) = allocate_fast(&sound, size, align) else {
         return allocate_in_full(head, starts, sizes, pointers, size, align);
     };
-    let last = h.count - 1;
+    let last = count - 1;
     pointers[last] = p;
     Said {
         refusal: 0,
@@ -83,8 +73,8 @@ pub extern "C" fn miravoly_fast_allocate(
     ensures value { result ≡ said_given (allocate_of (parts_of head.old starts.old sizes.old pointers.old) (length region.now) size align).answer }
     ensures pointers_after { parts_of head.new starts.new sizes.new pointers.new ≡ (allocate_of (parts_of head.old starts.old sizes.old pointers.old) (length region.now) size align).arena }
 {
-    if let Answer::Refused(r) = lent_answer(head_of(head), starts, sizes, pointers, region.len()) {
-        return said_refused(r);
+    if let Err(r) = lent_answer(lent_in(head, starts, sizes, pointers), region.len()) {
+        return r.into();
     }
     miravoly_sound_allocate(head, starts, sizes, pointers, size, align)
 }

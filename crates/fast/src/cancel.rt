@@ -5,12 +5,11 @@ ghost use Rattle.calls.specs.Token.{token_of, cancel_of};
 ghost use Rattle.host.specs.Said.{said_of};
 ghost use Rattle.fast.specs.Parts.{parts_of};
 
-use crate::parts::{head_of, make_in_parts};
+use crate::parts::{lent_in, make_in_parts, sound_in};
 use arena::Refusal;
 use arena::sound::is_sound;
 use calls::Token;
 use host::Said;
-use host::answers::{said_plain, said_refused};
 use takeback::tokens::cancel_ended;
 
 #[unsafe(no_mangle)]
@@ -28,11 +27,10 @@ pub extern "C" fn miravoly_sound_cancel(
     ensures pointers_after { parts_of head.new starts.new sizes.new pointers.new ≡ (cancel_of (parts_of head.old starts.old sizes.old pointers.old) offset (token_of count pointer)).arena }
 {
     let token = Token { count, pointer };
-    let got = cancel_ended(head_of(head), starts, sizes, pointers, offset, token);
-    let answer = got.answer;
-    let change = got.change;
-    make_in_parts(head, starts, sizes, pointers, change);
-    said_plain(answer)
+    let sound = sound_in(head, starts, sizes, pointers);
+    let got = cancel_ended(&sound, offset, token);
+    make_in_parts(head, starts, sizes, pointers, got.change);
+    got.answer.into()
 }
 
 #[unsafe(no_mangle)]
@@ -48,8 +46,8 @@ pub extern "C" fn miravoly_fast_cancel(
     ensures value { result ≡ said_of (cancel_of (parts_of head.old starts.old sizes.old pointers.old) offset (token_of count pointer)).answer }
     ensures pointers_after { parts_of head.new starts.new sizes.new pointers.new ≡ (cancel_of (parts_of head.old starts.old sizes.old pointers.old) offset (token_of count pointer)).arena }
 {
-    if !is_sound(head_of(head), starts, sizes, pointers) {
-        return said_refused(Refusal::State);
+    if !is_sound(&lent_in(head, starts, sizes, pointers)) {
+        return Refusal::State.into();
     }
     miravoly_sound_cancel(head, starts, sizes, pointers, offset, count, pointer)
 }

@@ -7,12 +7,10 @@ ghost use Rattle.host.specs.Said.{said_given};
 ghost use Rattle.fast.specs.Parts.{head_of, parts_of};
 
 use crate::allocate::miravoly_sound_allocate;
-use crate::parts::head_of;
-use arena::Answer;
+use crate::parts::lent_in;
 use calls::bytes::copy_from;
 use calls::refusals::lent_answer;
 use host::Said;
-use host::answers::said_refused;
 
 #[unsafe(no_mangle)]
 pub extern "C" fn miravoly_sound_copy_in(
@@ -51,8 +49,8 @@ pub extern "C" fn miravoly_fast_copy_in(
     ensures pointers_after { parts_of head.new starts.new sizes.new pointers.new ≡ (allocate_of (parts_of head.old starts.old sizes.old pointers.old) (length region.old) (length source.now) align).arena }
     ensures region_after { region.new ≡ copy_in_bytes (parts_of head.old starts.old sizes.old pointers.old) region.old source.now align }
 {
-    if let Answer::Refused(r) = lent_answer(head_of(head), starts, sizes, pointers, region.len()) {
-        return said_refused(r);
+    if let Err(r) = lent_answer(lent_in(head, starts, sizes, pointers), region.len()) {
+        return r.into();
     }
     miravoly_sound_copy_in(head, starts, sizes, pointers, region, source, align)
 }

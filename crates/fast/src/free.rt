@@ -5,12 +5,11 @@ ghost use Rattle.calls.specs.Free.{free_of};
 ghost use Rattle.host.specs.Said.{said_of};
 ghost use Rattle.fast.specs.Parts.{parts_of};
 
-use crate::parts::{head_of, make_in_parts};
+use crate::parts::{lent_in, make_in_parts, sound_in};
 use arena::Refusal;
 use arena::sound::is_sound;
 use calls::free::free_ended;
 use host::Said;
-use host::answers::{said_plain, said_refused};
 
 #[unsafe(no_mangle)]
 pub extern "C" fn miravoly_sound_free(
@@ -26,11 +25,10 @@ pub extern "C" fn miravoly_sound_free(
     ensures value { result ≡ said_of (free_of (parts_of head.old starts.old sizes.old pointers.old) offset size align).answer }
     ensures pointers_after { parts_of head.new starts.new sizes.new pointers.new ≡ (free_of (parts_of head.old starts.old sizes.old pointers.old) offset size align).arena }
 {
-    let got = free_ended(head_of(head), starts, sizes, pointers, offset, size, align);
-    let answer = got.answer;
-    let change = got.change;
-    make_in_parts(head, starts, sizes, pointers, change);
-    said_plain(answer)
+    let sound = sound_in(head, starts, sizes, pointers);
+    let got = free_ended(&sound, offset, size, align);
+    make_in_parts(head, starts, sizes, pointers, got.change);
+    got.answer.into()
 }
 
 #[unsafe(no_mangle)]
@@ -46,8 +44,8 @@ pub extern "C" fn miravoly_fast_free(
     ensures value { result ≡ said_of (free_of (parts_of head.old starts.old sizes.old pointers.old) offset size align).answer }
     ensures pointers_after { parts_of head.new starts.new sizes.new pointers.new ≡ (free_of (parts_of head.old starts.old sizes.old pointers.old) offset size align).arena }
 {
-    if !is_sound(head_of(head), starts, sizes, pointers) {
-        return said_refused(Refusal::State);
+    if !is_sound(&lent_in(head, starts, sizes, pointers)) {
+        return Refusal::State.into();
     }
     miravoly_sound_free(head, starts, sizes, pointers, offset, size, align)
 }

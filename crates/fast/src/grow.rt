@@ -5,11 +5,9 @@ ghost use Rattle.calls.specs.Grow.{grow_of, grow_bytes};
 ghost use Rattle.host.specs.Said.{said_given};
 ghost use Rattle.fast.specs.Parts.{head_of, parts_of};
 
-use crate::parts::{head_of, make_in_parts};
-use arena::Answer;
+use crate::parts::{lent_in, make_in_parts, sound_in};
 use calls::refusals::lent_answer;
 use host::Said;
-use host::answers::{said_given, said_refused};
 use reshape::grow::grow_placed;
 
 #[unsafe(no_mangle)]
@@ -30,22 +28,10 @@ pub extern "C" fn miravoly_sound_grow(
     ensures pointers_after { parts_of head.new starts.new sizes.new pointers.new ≡ (grow_of (parts_of head.old starts.old sizes.old pointers.old) (length region.old) offset old old_align new new_align).arena }
     ensures region_after { region.new ≡ grow_bytes (parts_of head.old starts.old sizes.old pointers.old) region.old offset old old_align new new_align }
 {
-    let got = grow_placed(
-        head_of(head),
-        starts,
-        sizes,
-        pointers,
-        region,
-        offset,
-        old,
-        old_align,
-        new,
-        new_align,
-    );
-    let answer = got.answer;
-    let change = got.change;
-    make_in_parts(head, starts, sizes, pointers, change);
-    said_given(answer)
+    let sound = sound_in(head, starts, sizes, pointers);
+    let got = grow_placed(&sound, region, offset, old, old_align, new, new_align);
+    make_in_parts(head, starts, sizes, pointers, got.change);
+    got.answer.into()
 }
 
 #[unsafe(no_mangle)]
@@ -65,8 +51,8 @@ pub extern "C" fn miravoly_fast_grow(
     ensures pointers_after { parts_of head.new starts.new sizes.new pointers.new ≡ (grow_of (parts_of head.old starts.old sizes.old pointers.old) (length region.old) offset old old_align new new_align).arena }
     ensures region_after { region.new ≡ grow_bytes (parts_of head.old starts.old sizes.old pointers.old) region.old offset old old_align new new_align }
 {
-    if let Answer::Refused(r) = lent_answer(head_of(head), starts, sizes, pointers, region.len()) {
-        return said_refused(r);
+    if let Err(r) = lent_answer(lent_in(head, starts, sizes, pointers), region.len()) {
+        return r.into();
     }
     miravoly_sound_grow(
         head, starts, sizes, pointers, region, offset, old, old_align, new, new_align,

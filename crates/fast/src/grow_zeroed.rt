@@ -6,12 +6,10 @@ ghost use Rattle.host.specs.Said.{said_given};
 ghost use Rattle.fast.specs.Parts.{head_of, parts_of};
 
 use crate::grow::miravoly_sound_grow;
-use crate::parts::head_of;
-use arena::Answer;
+use crate::parts::lent_in;
 use calls::bytes::fill;
 use calls::refusals::lent_answer;
 use host::Said;
-use host::answers::said_refused;
 
 #[unsafe(no_mangle)]
 pub extern "C" fn miravoly_sound_grow_zeroed(
@@ -58,8 +56,8 @@ pub extern "C" fn miravoly_fast_grow_zeroed(
     ensures pointers_after { parts_of head.new starts.new sizes.new pointers.new ≡ (grow_of (parts_of head.old starts.old sizes.old pointers.old) (length region.old) offset old old_align new new_align).arena }
     ensures region_after { region.new ≡ grow_zeroed_bytes (parts_of head.old starts.old sizes.old pointers.old) region.old offset old old_align new new_align }
 {
-    if let Answer::Refused(r) = lent_answer(head_of(head), starts, sizes, pointers, region.len()) {
-        return said_refused(r);
+    if let Err(r) = lent_answer(lent_in(head, starts, sizes, pointers), region.len()) {
+        return r.into();
     }
     miravoly_sound_grow_zeroed(
         head, starts, sizes, pointers, region, offset, old, old_align, new, new_align,

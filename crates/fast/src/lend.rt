@@ -5,8 +5,7 @@ ghost use Rattle.calls.specs.Write.{lend_of};
 ghost use Rattle.host.specs.Said.{said_part};
 ghost use Rattle.fast.specs.Parts.{head_of, parts_of};
 
-use crate::parts::head_of;
-use arena::Answer;
+use crate::parts::{lent_in, sound_in};
 use calls::refusals::{block_answer, lent_answer};
 use host::SaidPart;
 use host::lend::part_of;
@@ -24,7 +23,8 @@ pub extern "C" fn miravoly_sound_lend<'a>(
     requires { sound_of (parts_of head.now starts.now sizes.now pointers.now) ≡ true }
     ensures { result ≡ said_part (lend_of (parts_of head.now starts.now sizes.now pointers.now) (head_of head.now).region offset size align) offset size }
 {
-    let answer = block_answer(head_of(head), starts, sizes, pointers, offset, size, align);
+    let sound = sound_in(head, starts, sizes, pointers);
+    let answer = block_answer(&sound, offset, size, align);
     part_of(answer, offset, size)
 }
 
@@ -41,8 +41,8 @@ pub extern "C" fn miravoly_fast_lend<'a>(
 ) -> SaidPart
     ensures { result ≡ said_part (lend_of (parts_of head.now starts.now sizes.now pointers.now) (length region.now) offset size align) offset size }
 {
-    if let Answer::Refused(r) = lent_answer(head_of(head), starts, sizes, pointers, region.len()) {
-        return part_of(Answer::Refused(r), offset, size);
+    if let Err(r) = lent_answer(lent_in(head, starts, sizes, pointers), region.len()) {
+        return part_of(Err(r), offset, size);
     }
     miravoly_sound_lend(head, starts, sizes, pointers, offset, size, align)
 }

@@ -1,13 +1,15 @@
 // A record that is lent in parts and changed in place: no copy of it is made. Its head crosses as five numbers.
 ghost use Rattle.std.specs.Prelude.{◌≡◌, true};
 ghost use Rattle.arena.specs.Sound.{sound_of};
-ghost use Rattle.arena.specs.Inner.{changed_by};
+ghost use Rattle.arena.specs.Inner.{lent_of, changed_by};
 ghost use Rattle.fast.specs.Parts.{head_of, parts_of};
 
 use arena::Head;
 use arena::change::{Change, make};
+use arena::lent::Lent;
+use arena::sound::Sound;
 
-pub fn head_of(head: &[usize; 5]) -> Head
+fn head_of(head: &[usize; 5]) -> Head
     ensures { result ≡ head_of head.now }
 {
     Head {
@@ -16,6 +18,36 @@ pub fn head_of(head: &[usize; 5]) -> Head
         limited: head[2],
         limit: head[3],
         count: head[4],
+    }
+}
+
+pub fn lent_in<'a>(
+    head: &[usize; 5],
+    starts: &'a [usize; 32],
+    sizes: &'a [usize; 32],
+    pointers: &'a [usize; 32],
+) -> Lent<'a>
+    ensures { lent_of result ≡ parts_of head.now starts.now sizes.now pointers.now }
+{
+    Lent {
+        head: head_of(head),
+        starts,
+        sizes,
+        pointers,
+    }
+}
+
+pub fn sound_in<'a>(
+    head: &[usize; 5],
+    starts: &'a [usize; 32],
+    sizes: &'a [usize; 32],
+    pointers: &'a [usize; 32],
+) -> Sound<'a>
+    requires { sound_of (parts_of head.now starts.now sizes.now pointers.now) ≡ true }
+    ensures { lent_of result.lent ≡ parts_of head.now starts.now sizes.now pointers.now }
+{
+    Sound {
+        lent: lent_in(head, starts, sizes, pointers),
     }
 }
 

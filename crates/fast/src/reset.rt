@@ -5,12 +5,11 @@ ghost use Rattle.arena.specs.Sound.{sound_of};
 ghost use Rattle.host.specs.Said.{said_of};
 ghost use Rattle.fast.specs.Parts.{parts_of};
 
-use crate::parts::{head_of, make_in_parts};
+use crate::parts::{lent_in, make_in_parts};
+use arena::Refusal;
 use arena::change::Change;
 use arena::sound::is_sound;
-use arena::{Answer, Refusal};
 use host::Said;
-use host::answers::{said_plain, said_refused};
 
 #[unsafe(no_mangle)]
 pub extern "C" fn miravoly_sound_reset(
@@ -24,7 +23,7 @@ pub extern "C" fn miravoly_sound_reset(
     ensures pointers_after { parts_of head.new starts.new sizes.new pointers.new ≡ (reset_of (parts_of head.old starts.old sizes.old pointers.old)).arena }
 {
     make_in_parts(head, starts, sizes, pointers, Change::Kept);
-    said_plain(Answer::Done)
+    Ok(()).into()
 }
 
 #[unsafe(no_mangle)]
@@ -37,8 +36,8 @@ pub extern "C" fn miravoly_fast_reset(
     ensures value { result ≡ said_of (reset_of (parts_of head.old starts.old sizes.old pointers.old)).answer }
     ensures pointers_after { parts_of head.new starts.new sizes.new pointers.new ≡ (reset_of (parts_of head.old starts.old sizes.old pointers.old)).arena }
 {
-    if !is_sound(head_of(head), starts, sizes, pointers) {
-        return said_refused(Refusal::State);
+    if !is_sound(&lent_in(head, starts, sizes, pointers)) {
+        return Refusal::State.into();
     }
     miravoly_sound_reset(head, starts, sizes, pointers)
 }

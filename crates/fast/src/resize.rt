@@ -5,11 +5,9 @@ ghost use Rattle.calls.specs.Resize.{resize_of, resize_bytes};
 ghost use Rattle.host.specs.Said.{said_given};
 ghost use Rattle.fast.specs.Parts.{head_of, parts_of};
 
-use crate::parts::{head_of, make_in_parts};
-use arena::Answer;
+use crate::parts::{lent_in, make_in_parts, sound_in};
 use calls::refusals::lent_answer;
 use host::Said;
-use host::answers::{said_given, said_refused};
 use reshape::resize::resize_placed;
 
 #[unsafe(no_mangle)]
@@ -29,21 +27,10 @@ pub extern "C" fn miravoly_sound_resize(
     ensures pointers_after { parts_of head.new starts.new sizes.new pointers.new ≡ (resize_of (parts_of head.old starts.old sizes.old pointers.old) (length region.old) offset old align new).arena }
     ensures region_after { region.new ≡ resize_bytes (parts_of head.old starts.old sizes.old pointers.old) region.old offset old align new }
 {
-    let got = resize_placed(
-        head_of(head),
-        starts,
-        sizes,
-        pointers,
-        region,
-        offset,
-        old,
-        align,
-        new,
-    );
-    let answer = got.answer;
-    let change = got.change;
-    make_in_parts(head, starts, sizes, pointers, change);
-    said_given(answer)
+    let sound = sound_in(head, starts, sizes, pointers);
+    let got = resize_placed(&sound, region, offset, old, align, new);
+    make_in_parts(head, starts, sizes, pointers, got.change);
+    got.answer.into()
 }
 
 #[unsafe(no_mangle)]
@@ -62,8 +49,8 @@ pub extern "C" fn miravoly_fast_resize(
     ensures pointers_after { parts_of head.new starts.new sizes.new pointers.new ≡ (resize_of (parts_of head.old starts.old sizes.old pointers.old) (length region.old) offset old align new).arena }
     ensures region_after { region.new ≡ resize_bytes (parts_of head.old starts.old sizes.old pointers.old) region.old offset old align new }
 {
-    if let Answer::Refused(r) = lent_answer(head_of(head), starts, sizes, pointers, region.len()) {
-        return said_refused(r);
+    if let Err(r) = lent_answer(lent_in(head, starts, sizes, pointers), region.len()) {
+        return r.into();
     }
     miravoly_sound_resize(
         head, starts, sizes, pointers, region, offset, old, align, new,

@@ -5,10 +5,9 @@ ghost use Rattle.calls.specs.Token.{with_token_of};
 ghost use Rattle.host.specs.Said.{said_token};
 ghost use Rattle.fast.specs.Parts.{head_of, parts_of};
 
-use crate::parts::{head_of, make_in_parts};
-use arena::Answer;
+use crate::parts::{lent_in, make_in_parts, sound_in};
+use calls::Token;
 use calls::refusals::lent_answer;
-use calls::{Given, Token};
 use host::SaidToken;
 use host::answers::said_token;
 use takeback::tokens::allocate_with_token_placed;
@@ -26,12 +25,10 @@ pub extern "C" fn miravoly_sound_allocate_with_token(
     ensures value { result ≡ said_token (with_token_of (parts_of head.old starts.old sizes.old pointers.old) (head_of head.old).region size align) }
     ensures pointers_after { parts_of head.new starts.new sizes.new pointers.new ≡ (with_token_of (parts_of head.old starts.old sizes.old pointers.old) (head_of head.old).region size align).arena }
 {
-    let got = allocate_with_token_placed(head_of(head), starts, sizes, pointers, size, align);
-    let answer = got.answer;
-    let token = got.token;
-    let change = got.change;
-    make_in_parts(head, starts, sizes, pointers, change);
-    said_token(answer, token)
+    let sound = sound_in(head, starts, sizes, pointers);
+    let got = allocate_with_token_placed(&sound, size, align);
+    make_in_parts(head, starts, sizes, pointers, got.change);
+    said_token(got.answer, got.token)
 }
 
 #[unsafe(no_mangle)]
@@ -47,12 +44,8 @@ pub extern "C" fn miravoly_fast_allocate_with_token(
     ensures value { result ≡ said_token (with_token_of (parts_of head.old starts.old sizes.old pointers.old) (length region.now) size align) }
     ensures pointers_after { parts_of head.new starts.new sizes.new pointers.new ≡ (with_token_of (parts_of head.old starts.old sizes.old pointers.old) (length region.now) size align).arena }
 {
-    if let Answer::Refused(r) = lent_answer(head_of(head), starts, sizes, pointers, region.len()) {
-        let none = Token {
-            count: 0,
-            pointer: 0,
-        };
-        return said_token(Given::Refused(r), none);
+    if let Err(r) = lent_answer(lent_in(head, starts, sizes, pointers), region.len()) {
+        return said_token(Err(r), Token::default());
     }
     miravoly_sound_allocate_with_token(head, starts, sizes, pointers, size, align)
 }

@@ -2,14 +2,11 @@
 use Prim.Native.Nat.{ℕ, ◌<◌}
 use native.Mathlib.Omega.{arith}
 use mathlib.Core.Path.{◌≡◌, refl}
-use Rattle.arena.specs.declared.Answer.{Answer}
-use Rattle.arena.specs.declared.Answer.TheVariants.{Done, Refused as REFUSED}
 use Rattle.arena.specs.declared.Refusal.{Refusal}
 use Rattle.arena.specs.declared.Refusal.TheVariants.{State, Region, Size, Align, Block, Direction, Token, Room}
-use Rattle.arena.specs.Refusals.{number_of}
-use Rattle.calls.specs.declared.Given.{Given}
-use Rattle.calls.specs.declared.Given.TheVariants.{At, Refused}
+use Rattle.arena.specs.Refusals.{number_of, Answer, Given}
 use Rattle.host.specs.Said.{said_of, said_given, said_part}
+use Rattle.std.specs.Prelude.{Err, Ok}
 
 pub number-above-0 : (r : Refusal) → 0 < number_of r
 number-above-0 State = omega arith
@@ -21,17 +18,17 @@ number-above-0 Direction = omega arith
 number-above-0 Token = omega arith
 number-above-0 Room = omega arith
 
-pub said-done : (x : Answer) → (said_of x).refusal ≡ 0 → x ≡ Done
+pub said-done : (x : Answer) → (said_of x).refusal ≡ 0 → x ≡ (Ok tt)
 unfolding said_of
-said-done Done e = refl
-said-done (REFUSED r) e = absurd (omega (arith, e, number-above-0 r))
+said-done (Ok u) e = refl
+said-done (Err r) e = absurd (omega (arith, e, number-above-0 r))
 
-pub said-given : (g : Given) → (said_given g).refusal ≡ 0 → g ≡ At (said_given g).offset
+pub said-given : (g : Given) → (said_given g).refusal ≡ 0 → g ≡ Ok (said_given g).offset
 unfolding said_given
-said-given (At offset) e = refl
-said-given (Refused r) e = absurd (omega (arith, e, number-above-0 r))
+said-given (Ok offset) e = refl
+said-given (Err r) e = absurd (omega (arith, e, number-above-0 r))
 
-pub said-lent : (x : Answer) (offset size : ℕ) → (said_part x offset size).refusal ≡ 0 → x ≡ Done
+pub said-lent : (x : Answer) (offset size : ℕ) → (said_part x offset size).refusal ≡ 0 → x ≡ (Ok tt)
 unfolding said_part
-said-lent Done offset size e = refl
-said-lent (REFUSED r) offset size e = absurd (omega (arith, e, number-above-0 r))
+said-lent (Ok u) offset size e = refl
+said-lent (Err r) offset size e = absurd (omega (arith, e, number-above-0 r))

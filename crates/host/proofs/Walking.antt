@@ -11,17 +11,19 @@ use lib.Dec.{eqb, ltb}
 use borrow.Author.Tests.{lt-ltb, ltb-true, ltb-false, ne_eqb}
 use Rattle.arena.specs.declared.Arena.{Arena}
 use Rattle.arena.specs.declared.Chunk.{Chunk}
-use Rattle.arena.specs.declared.Answer.{Answer}
-use Rattle.arena.specs.declared.Answer.TheVariants.{Done, Refused}
 use Rattle.arena.specs.declared.Refusal.{Refusal}
+use Rattle.arena.specs.declared.lent.Lent as Rec
+use Rattle.arena.specs.Inner.{lent_of}
 use Rattle.arena.specs.Numbers.{places}
 use Rattle.arena.specs.Record.{end_of, chunk_at, chunks_of, held_of}
-use Rattle.arena.specs.Refusals.{number_of}
+use Rattle.arena.specs.Refusals.{number_of, Answer}
+use Rattle.arena.specs.Sound.{sound_of}
 use Rattle.arena.proofs.View.{length-chunks, chunks-newest, chunks-at}
 use Rattle.arena.proofs.Soundness.{ChunkSound, sound-open}
-use Rattle.calls.proofs.Testing.{Lent, lent-passes, tests-pass}
+use Rattle.calls.proofs.Testing.{Lent, lent-passes, lent-done, tests-pass}
 use Rattle.host.specs.declared.SaidStep.{SaidStep}
 use Rattle.host.specs.Walk.{walk_answer, chunk_part, parts_of, walk_parts, step, said_step, step_of, step_part, next_index, handed_out}
+use Rattle.std.specs.Prelude.{Err, Ok}
 
 module _ (starts sizes pointers : List ℕ) where
   abbrev chunks : ℕ → List Chunk
@@ -48,11 +50,17 @@ module _ (starts sizes pointers : List ℕ) where
   some_left n i before = left-chunks n i ∙ chunks-newest starts sizes pointers (n - i) (omega arith)
 
 -- a walk that is not refused: the record is sound, and lent its own region
-pub walked : (a : Arena) (lent : ℕ) → Done ≡ walk_answer a lent → Lent a lent
+pub walked : (a : Arena) (lent : ℕ) → (Ok tt) ≡ walk_answer a lent → Lent a lent
 unfolding walk_answer
 walked a lent e = lent-passes a lent (tests-pass _ e)
 
-module _ (a : Arena) (lent : ℕ) (e : Done ≡ walk_answer a lent) where
+-- and the other way round, of a lent record k that is known to be sound
+pub passed : {k l : Rec.Lent} (a : Arena) (lent : ℕ) → k ≡ l → lent_of l ≡ a → sound_of (lent_of k) ≡ true → lent ≡ l.head.region → (Ok tt) ≡ walk_answer a lent
+unfolding walk_answer
+passed a lent same own sound whole =
+    sym (lent-done a lent (sym (ap sound_of (ap lent_of same ∙ own)) ∙ sound) (whole ∙ ap (λ (r : Arena). r.head.region) own))
+
+module _ (a : Arena) (lent : ℕ) (e : (Ok tt) ≡ walk_answer a lent) where
   abbrev count : ℕ
   count = a.head.count
 
@@ -69,7 +77,7 @@ module _ (a : Arena) (lent : ℕ) (e : Done ≡ walk_answer a lent) where
   pub step-none : (index : ℕ) → count ≤ index → step 0 0 0 0 ≡ step_of a lent index
   unfolding step_of said_step
   step-none index past =
-      ap (said_step Done) (sym (none_left a.starts a.sizes a.pointers count index past))
+      ap (said_step (Ok tt)) (sym (none_left a.starts a.sizes a.pointers count index past))
       ∙ ap (λ (x : Answer). said_step x (drop index (held_of a))) e
 
   pub step-some : (index : ℕ) → index < count →
@@ -81,11 +89,11 @@ module _ (a : Arena) (lent : ℕ) (e : Done ≡ walk_answer a lent) where
       let rest = chunks_of a.starts a.sizes a.pointers (count - index - 1) in
       let long : count - index ≡ length (c ∷ rest) = omega (arith, length-chunks a.starts a.sizes a.pointers (count - index - 1)) in
       ap (λ (n : ℕ). step 0 n c.pointer (end_of c - c.pointer)) long
-      ∙ ap (said_step Done) (sym (some_left a.starts a.sizes a.pointers count index before))
+      ∙ ap (said_step (Ok tt)) (sym (some_left a.starts a.sizes a.pointers count index before))
       ∙ ap (λ (x : Answer). said_step x (drop index (held_of a))) e
 
 -- refused, a step says the number and nothing else
-pub step-refused : (a : Arena) (lent index : ℕ) {r : Refusal} → Refused r ≡ walk_answer a lent → step (number_of r) 0 0 0 ≡ step_of a lent index
+pub step-refused : (a : Arena) (lent index : ℕ) {r : Refusal} → Err r ≡ walk_answer a lent → step (number_of r) 0 0 0 ≡ step_of a lent index
 unfolding step_of said_step
 step-refused a lent index e = ap (λ (x : Answer). said_step x (drop index (held_of a))) e
 
@@ -96,7 +104,7 @@ step-inside a lent index = go (walk_answer a lent) refl
     within : (s : _) → s ≡ step_of a lent index → s.offset + s.length ≤ lent → (step_of a lent index).offset + (step_of a lent index).length ≤ lent
     within s f l = subst (λ t. t.offset + t.length ≤ lent) f l
 
-    by_index : (e : Done ≡ walk_answer a lent) (t : Bool) → ltb index a.head.count ≡ t → (step_of a lent index).offset + (step_of a lent index).length ≤ lent
+    by_index : (e : (Ok tt) ≡ walk_answer a lent) (t : Bool) → ltb index a.head.count ≡ t → (step_of a lent index).offset + (step_of a lent index).length ≤ lent
     by_index e false f = within _ (step-none a lent e index (ltb-false index a.head.count f)) (omega arith)
     by_index e true f =
         let before = ltb-true index a.head.count f in
@@ -104,8 +112,8 @@ step-inside a lent index = go (walk_answer a lent) refl
         within _ (step-some a lent e index before) (omega (arith, c.below_end, c.inside, (walked a lent e).whole))
 
     go : (x : Answer) → walk_answer a lent ≡ x → (step_of a lent index).offset + (step_of a lent index).length ≤ lent
-    go Done e = by_index (sym e) (ltb index a.head.count) refl
-    go (Refused r) e = within _ (step-refused a lent index (sym e)) (omega arith)
+    go (Ok u) e = by_index (sym e) (ltb index a.head.count) refl
+    go (Err r) e = within _ (step-refused a lent index (sym e)) (omega arith)
 
 -- what the steps hand out, from an index on
 module _ (a : Arena) (bytes : List ℕ) where
@@ -128,7 +136,7 @@ module _ (a : Arena) (bytes : List ℕ) where
       ap (λ (t : Bool). cond t [] (step_part bytes (at-step index) ∷ handed_out n a bytes (next_index index))) (ne_eqb (at-step index).left 0 (λ none. omega (arith, none)))
       ∙ ap (λ (t : Bool). step_part bytes (at-step index) ∷ handed_out n a bytes (cond t (suc index) index)) (lt-ltb index places few)
 
-  module _ (e : Done ≡ walk_answer a (length bytes)) where
+  module _ (e : (Ok tt) ≡ walk_answer a (length bytes)) where
     abbrev held : ℕ
     held = a.head.count
 
@@ -164,7 +172,7 @@ module _ (a : Arena) (bytes : List ℕ) where
   hands_out n enough = go (walk_answer a (length bytes)) refl
     where
       go : (x : Answer) → walk_answer a (length bytes) ≡ x → handed_out n a bytes 0 ≡ parts_of (walk_answer a (length bytes)) bytes (held_of a)
-      go Done e = done-handed (sym e) n 0 (omega arith) ∙ sym (ap (λ (x : Answer). parts_of x bytes (held_of a)) e)
-      go (Refused r) e =
+      go (Ok u) e = done-handed (sym e) n 0 (omega arith) ∙ sym (ap (λ (x : Answer). parts_of x bytes (held_of a)) e)
+      go (Err r) e =
           ends n 0 (sym (ap (λ (s : SaidStep). s.left) (step-refused a (length bytes) 0 (sym e))))
           ∙ sym (ap (λ (x : Answer). parts_of x bytes (held_of a)) e)

@@ -1,32 +1,24 @@
 -- What a call answers a host in plain numbers: document 01's number of the refusal, or 0, and the block's offset.
-use Rattle.std.specs.Prelude.{ℕ}
-use Rattle.arena.specs.declared.Answer.{Answer}
-use Rattle.arena.specs.declared.Answer.TheVariants.{Done, Refused as REFUSED}
-use Rattle.arena.specs.declared.Outcome.{Outcome}
-use Rattle.arena.specs.Refusals.{number_of}
-use Rattle.calls.specs.declared.Given.{Given}
-use Rattle.calls.specs.declared.Given.TheVariants.{At, Refused}
-use Rattle.calls.specs.declared.Allocation.{Allocation}
+use Rattle.std.specs.Prelude.{ℕ, Err, Ok}
+use Rattle.arena.specs.Refusals.{number_of, Answer, Given}
 use Rattle.calls.specs.declared.Token.{Token}
 use Rattle.calls.specs.declared.TokenAllocation.{TokenAllocation}
 use Rattle.host.specs.declared.Said.{Said}
 use Rattle.host.specs.declared.SaidPart.{SaidPart}
 use Rattle.host.specs.declared.SaidToken.{SaidToken}
-use Rattle.host.specs.declared.Stored.{Stored}
-use Rattle.host.specs.declared.StoredToken.{StoredToken}
 
 abbrev pub said : ℕ → ℕ → Said
 said refusal offset = record { refusal = refusal; offset = offset }
 
 -- of a call that gives out no block
 unfoldable pub said_of : Answer → Said
-said_of Done = said 0 0
-said_of (REFUSED r) = said (number_of r) 0
+said_of (Ok u) = said 0 0
+said_of (Err r) = said (number_of r) 0
 
 -- of a call that gives one out
 unfoldable pub said_given : Given → Said
-said_given (At offset) = said 0 offset
-said_given (Refused r) = said (number_of r) 0
+said_given (Ok offset) = said 0 offset
+said_given (Err r) = said (number_of r) 0
 
 -- of one that records a token too
 abbrev pub token_said : Given → Token → SaidToken
@@ -46,15 +38,5 @@ abbrev pub said_at : ℕ → ℕ → ℕ → SaidPart
 said_at refusal offset length = record { refusal = refusal; offset = offset; length = length }
 
 unfoldable pub said_part : Answer → ℕ → ℕ → SaidPart
-said_part Done offset size = said_at 0 offset size
-said_part (REFUSED r) offset size = said_at (number_of r) 0 0
-
--- the answer, with the record that is stored
-unfoldable pub stored_of : Outcome → Stored
-stored_of o = record { said = said_of o.answer; arena = o.arena }
-
-unfoldable pub stored_given : Allocation → Stored
-stored_given got = record { said = said_given got.answer; arena = got.arena }
-
-unfoldable pub stored_token : TokenAllocation → StoredToken
-stored_token got = record { said = said_token got; arena = got.arena }
+said_part (Ok u) offset size = said_at 0 offset size
+said_part (Err r) offset size = said_at (number_of r) 0 0

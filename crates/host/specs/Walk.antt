@@ -1,12 +1,10 @@
 -- Document 01, "Walk": "each chunk's bytes from pointer to end, newest first. Refused, it gives nothing and says the number".
-use Rattle.std.specs.Prelude.{ℕ, zero, suc, ◌-◌, cond, List, [], ◌∷◌, map, length, drop, ltb, eqb}
+use Rattle.std.specs.Prelude.{ℕ, zero, suc, ◌-◌, cond, List, [], ◌∷◌, map, length, drop, ltb, eqb, Err, Ok}
 use Rattle.arena.specs.declared.Arena.{Arena}
 use Rattle.arena.specs.declared.Chunk.{Chunk}
-use Rattle.arena.specs.declared.Answer.{Answer}
-use Rattle.arena.specs.declared.Answer.TheVariants.{Done, Refused}
 use Rattle.arena.specs.Numbers.{places}
 use Rattle.arena.specs.Record.{end_of, held_of}
-use Rattle.arena.specs.Refusals.{Test, number_of, refused_by}
+use Rattle.arena.specs.Refusals.{Test, number_of, refused_by, Answer}
 use Rattle.arena.specs.Sound.{state_test}
 use Rattle.calls.specs.Bytes.{part}
 use Rattle.calls.specs.Tests.{region_test}
@@ -26,8 +24,8 @@ chunk_part bytes c = part bytes c.pointer (end_of c - c.pointer)
 
 -- "each chunk's bytes .., newest first. Refused, it gives nothing"
 unfoldable pub parts_of : Answer → List ℕ → List Chunk → List (List ℕ)
-parts_of Done bytes cs = map (chunk_part bytes) cs
-parts_of (Refused r) bytes cs = []
+parts_of (Ok u) bytes cs = map (chunk_part bytes) cs
+parts_of (Err r) bytes cs = []
 
 abbrev pub walk_parts : Arena → List ℕ → List (List ℕ)
 walk_parts a bytes = parts_of (walk_answer a (length bytes)) bytes (held_of a)
@@ -37,9 +35,9 @@ step refusal left offset length = record { refusal = refusal; left = left; offse
 
 -- what a step says of the chunks that are left
 unfoldable pub said_step : Answer → List Chunk → SaidStep
-said_step (Refused r) cs = step (number_of r) 0 0 0
-said_step Done [] = step 0 0 0 0
-said_step Done (c ∷ cs) = step 0 (length (c ∷ cs)) c.pointer (end_of c - c.pointer)
+said_step (Err r) cs = step (number_of r) 0 0 0
+said_step (Ok u) [] = step 0 0 0 0
+said_step (Ok u) (c ∷ cs) = step 0 (length (c ∷ cs)) c.pointer (end_of c - c.pointer)
 
 -- the step at an index: 0 is the newest chunk's
 unfoldable pub step_of : Arena → ℕ → ℕ → SaidStep

@@ -1,26 +1,10 @@
 // Grow, for hosts.
 ghost use Rattle.std.specs.Prelude.{◌≡◌, length};
 ghost use Rattle.calls.specs.Grow.{grow_of, grow_bytes, grow_zeroed_bytes};
-ghost use Rattle.host.specs.Said.{said_given, stored_given};
+ghost use Rattle.host.specs.Said.{said_given};
 
-use crate::answers::stored_given;
-use crate::{Said, Stored};
+use crate::Said;
 use arena::Arena;
-
-fn grow_by_value(
-    a: Arena,
-    region: &mut [u8],
-    offset: usize,
-    old: usize,
-    old_align: usize,
-    new: usize,
-    new_align: usize,
-) -> Stored
-    ensures value { result ≡ stored_given (grow_of a (length region.old) offset old old_align new new_align) }
-    ensures region_after { region.new ≡ grow_bytes a region.old offset old old_align new new_align }
-{
-    stored_given(reshape::grow::grow(a, region, offset, old, old_align, new, new_align))
-}
 
 #[unsafe(no_mangle)]
 pub extern "C" fn miravoly_grow(
@@ -36,24 +20,9 @@ pub extern "C" fn miravoly_grow(
     ensures arena_after { arena.new ≡ (grow_of arena.old (length region.old) offset old old_align new new_align).arena }
     ensures region_after { region.new ≡ grow_bytes arena.old region.old offset old old_align new new_align }
 {
-    let got = grow_by_value(*arena, region, offset, old, old_align, new, new_align);
+    let got = reshape::grow::grow(*arena, region, offset, old, old_align, new, new_align);
     *arena = got.arena;
-    got.said
-}
-
-fn grow_zeroed_by_value(
-    a: Arena,
-    region: &mut [u8],
-    offset: usize,
-    old: usize,
-    old_align: usize,
-    new: usize,
-    new_align: usize,
-) -> Stored
-    ensures value { result ≡ stored_given (grow_of a (length region.old) offset old old_align new new_align) }
-    ensures region_after { region.new ≡ grow_zeroed_bytes a region.old offset old old_align new new_align }
-{
-    stored_given(reshape::grow::grow_zeroed(a, region, offset, old, old_align, new, new_align))
+    got.answer.into()
 }
 
 #[unsafe(no_mangle)]
@@ -70,7 +39,7 @@ pub extern "C" fn miravoly_grow_zeroed(
     ensures arena_after { arena.new ≡ (grow_of arena.old (length region.old) offset old old_align new new_align).arena }
     ensures region_after { region.new ≡ grow_zeroed_bytes arena.old region.old offset old old_align new new_align }
 {
-    let got = grow_zeroed_by_value(*arena, region, offset, old, old_align, new, new_align);
+    let got = reshape::grow::grow_zeroed(*arena, region, offset, old, old_align, new, new_align);
     *arena = got.arena;
-    got.said
+    got.answer.into()
 }

@@ -15,8 +15,6 @@ pub mod tokens;
 pub mod walk;
 pub mod write;
 
-use arena::Arena;
-
 // A refusal's number, or 0 where the call was not refused; and the block's offset, or 0 where there is none.
 #[repr(C)]
 #[derive(Clone, Copy)]
@@ -46,23 +44,10 @@ pub struct SaidPart {
 
 // The same of a step of the walk, with the number of parts that are left, this one counted: 0 after the last.
 #[repr(C)]
-#[derive(Clone, Copy)]
+#[derive(Clone, Copy, Default)]
 pub struct SaidStep {
     pub refusal: usize,
     pub left: usize,
     pub offset: usize,
     pub length: usize,
-}
-
-// What an entry answers, and the record that it stores.
-#[derive(Clone, Copy)]
-pub struct Stored {
-    pub said: Said,
-    pub arena: Arena,
-}
-
-#[derive(Clone, Copy)]
-pub struct StoredToken {
-    pub said: SaidToken,
-    pub arena: Arena,
 }

@@ -1,25 +1,10 @@
 // Resize, for hosts.
 ghost use Rattle.std.specs.Prelude.{◌≡◌, length};
 ghost use Rattle.calls.specs.Resize.{resize_of, resize_bytes};
-ghost use Rattle.host.specs.Said.{said_given, stored_given};
+ghost use Rattle.host.specs.Said.{said_given};
 
-use crate::answers::stored_given;
-use crate::{Said, Stored};
+use crate::Said;
 use arena::Arena;
-
-fn resize_by_value(
-    a: Arena,
-    region: &mut [u8],
-    offset: usize,
-    old: usize,
-    align: usize,
-    new: usize,
-) -> Stored
-    ensures value { result ≡ stored_given (resize_of a (length region.old) offset old align new) }
-    ensures region_after { region.new ≡ resize_bytes a region.old offset old align new }
-{
-    stored_given(reshape::resize::resize(a, region, offset, old, align, new))
-}
 
 #[unsafe(no_mangle)]
 pub extern "C" fn miravoly_resize(
@@ -34,7 +19,7 @@ pub extern "C" fn miravoly_resize(
     ensures arena_after { arena.new ≡ (resize_of arena.old (length region.old) offset old align new).arena }
     ensures region_after { region.new ≡ resize_bytes arena.old region.old offset old align new }
 {
-    let got = resize_by_value(*arena, region, offset, old, align, new);
+    let got = reshape::resize::resize(*arena, region, offset, old, align, new);
     *arena = got.arena;
-    got.said
+    got.answer.into()
 }

@@ -1,26 +1,10 @@
 // Shrink, for hosts.
 ghost use Rattle.std.specs.Prelude.{◌≡◌, length};
 ghost use Rattle.calls.specs.Shrink.{shrink_of, shrink_bytes};
-ghost use Rattle.host.specs.Said.{said_given, stored_given};
+ghost use Rattle.host.specs.Said.{said_given};
 
-use crate::answers::stored_given;
-use crate::{Said, Stored};
+use crate::Said;
 use arena::Arena;
-
-fn shrink_by_value(
-    a: Arena,
-    region: &mut [u8],
-    offset: usize,
-    old: usize,
-    old_align: usize,
-    new: usize,
-    new_align: usize,
-) -> Stored
-    ensures value { result ≡ stored_given (shrink_of a (length region.old) offset old old_align new new_align) }
-    ensures region_after { region.new ≡ shrink_bytes a region.old offset old old_align new new_align }
-{
-    stored_given(reshape::shrink::shrink(a, region, offset, old, old_align, new, new_align))
-}
 
 #[unsafe(no_mangle)]
 pub extern "C" fn miravoly_shrink(
@@ -36,7 +20,7 @@ pub extern "C" fn miravoly_shrink(
     ensures arena_after { arena.new ≡ (shrink_of arena.old (length region.old) offset old old_align new new_align).arena }
     ensures region_after { region.new ≡ shrink_bytes arena.old region.old offset old old_align new new_align }
 {
-    let got = shrink_by_value(*arena, region, offset, old, old_align, new, new_align);
+    let got = reshape::shrink::shrink(*arena, region, offset, old, old_align, new, new_align);
     *arena = got.arena;
-    got.said
+    got.answer.into()
 }

@@ -1,18 +1,12 @@
 // Allocate with a token, and cancel, for hosts. A token goes as its two numbers.
 ghost use Rattle.std.specs.Prelude.{◌≡◌, length};
 ghost use Rattle.calls.specs.Token.{token_of, with_token_of, cancel_of};
-ghost use Rattle.host.specs.Said.{said_of, stored_of, said_token, stored_token};
+ghost use Rattle.host.specs.Said.{said_of, said_token};
 
-use crate::answers::{stored, stored_token};
-use crate::{Said, SaidToken, Stored, StoredToken};
+use crate::answers::said_token;
+use crate::{Said, SaidToken};
 use arena::Arena;
 use calls::Token;
-
-fn allocate_with_token_by_value(a: Arena, region: &[u8], size: usize, align: usize) -> StoredToken
-    ensures { result ≡ stored_token (with_token_of a (length region.now) size align) }
-{
-    stored_token(takeback::tokens::allocate_with_token(a, region, size, align))
-}
 
 #[unsafe(no_mangle)]
 pub extern "C" fn miravoly_allocate_with_token(
@@ -24,19 +18,9 @@ pub extern "C" fn miravoly_allocate_with_token(
     ensures value { result ≡ said_token (with_token_of arena.old (length region.now) size align) }
     ensures arena_after { arena.new ≡ (with_token_of arena.old (length region.now) size align).arena }
 {
-    let got = allocate_with_token_by_value(*arena, region, size, align);
+    let got = takeback::tokens::allocate_with_token(*arena, region, size, align);
     *arena = got.arena;
-    got.said
-}
-
-fn cancel_by_value(a: Arena, offset: usize, count: usize, pointer: usize) -> Stored
-    ensures { result ≡ stored_of (cancel_of a offset (token_of count pointer)) }
-{
-    let token = Token {
-        count: count,
-        pointer: pointer,
-    };
-    stored(takeback::tokens::cancel(a, offset, token))
+    said_token(got.answer, got.token)
 }
 
 #[unsafe(no_mangle)]
@@ -49,7 +33,8 @@ pub extern "C" fn miravoly_cancel(
     ensures value { result ≡ said_of (cancel_of arena.old offset (token_of count pointer)).answer }
     ensures arena_after { arena.new ≡ (cancel_of arena.old offset (token_of count pointer)).arena }
 {
-    let got = cancel_by_value(*arena, offset, count, pointer);
+    let token = Token { count, pointer };
+    let got = takeback::tokens::cancel(*arena, offset, token);
     *arena = got.arena;
-    got.said
+    got.answer.into()
 }

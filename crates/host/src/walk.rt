@@ -7,13 +7,11 @@
 //     }
 ghost use Rattle.std.specs.Prelude.{◌≡◌, length};
 ghost use Rattle.calls.specs.Bytes.{stands_at};
-ghost use Rattle.host.specs.Walk.{walk_answer, step_of, step_part, next_index};
+ghost use Rattle.host.specs.Walk.{step_of, step_part, next_index};
 
 use crate::SaidStep;
-use crate::answers::number_of;
-use arena::sound::is_sound;
-use arena::table::chunk_at;
-use arena::{Answer, Arena, Refusal};
+use arena::Arena;
+use calls::refusals::lent_sound;
 
 // The record holds the chunk table; index 0 is the newest chunk.
 #[derive(Clone, Copy)]
@@ -23,44 +21,28 @@ pub struct Walk<'r> {
     pub index: usize,
 }
 
-fn walk_answer(a: Arena, lent: usize) -> Answer
-    ensures { result ≡ walk_answer a lent }
-{
-    if !is_sound(a.head, &a.starts, &a.sizes, &a.pointers) {
-        return Answer::Refused(Refusal::State);
-    }
-    if lent != a.head.region {
-        return Answer::Refused(Refusal::Region);
-    }
-    Answer::Done
-}
-
 // By the region's length, which is all that a step reads of it.
-fn step_in(a: Arena, lent: usize, index: usize) -> SaidStep
-    ensures { result ≡ step_of a lent index }
+fn step_in(a: &Arena, lent: usize, index: usize) -> SaidStep
+    ensures { result ≡ step_of a.now lent index }
 {
-    if let Answer::Refused(r) = walk_answer(a, lent) {
-        return SaidStep {
-            refusal: number_of(r),
-            left: 0,
-            offset: 0,
-            length: 0,
-        };
-    }
+    let sound = match lent_sound(a.lent(), lent) {
+        Ok(sound) => sound,
+        Err(r) => {
+            return SaidStep {
+                refusal: r.number(),
+                ..SaidStep::default()
+            };
+        }
+    };
     let count = a.head.count;
     if count <= index {
-        return SaidStep {
-            refusal: 0,
-            left: 0,
-            offset: 0,
-            length: 0,
-        };
+        return SaidStep::default();
     }
     let left = count - index;
-    let c = chunk_at(&a.starts, &a.sizes, &a.pointers, left - 1);
+    let c = sound.lent.chunk_at(left - 1);
     SaidStep {
         refusal: 0,
-        left: left,
+        left,
         offset: c.pointer,
         length: c.start + c.size - c.pointer,
     }
@@ -70,13 +52,13 @@ fn step_in(a: Arena, lent: usize, index: usize) -> SaidStep
 pub fn step_at(region: &[u8], a: Arena, index: usize) -> SaidStep
     ensures { result ≡ step_of a (length region.now) index }
 {
-    step_in(a, region.len(), index)
+    step_in(&a, region.len(), index)
 }
 
 pub fn part_at<'r>(region: &'r [u8], a: Arena, index: usize) -> &'r [u8]
     ensures { (result.now ≡ step_part region.now (step_of a (length region.now) index)) × (result.ref_ptr ≡ stands_at region.entry.ref_ptr (step_of a (length region.now) index).offset) }
 {
-    let step = step_in(a, region.len(), index);
+    let step = step_in(&a, region.len(), index);
     let from = step.offset;
     let end = from + step.length;
     &region[from..end]
@@ -95,8 +77,8 @@ pub fn start<'r>(region: &'r [u8], arena: Arena) -> Walk<'r>
     ensures { (result.region ≡ region.entry) × (result.arena ≡ arena) × (result.index ≡ 0) }
 {
     Walk {
-        region: region,
-        arena: arena,
+        region,
+        arena,
         index: 0,
     }
 }
@@ -124,15 +106,9 @@ pub fn moved<'r>(w: Walk<'r>) -> Walk<'r>
     }
 }
 
-fn walk_by_value(a: Arena, region: &[u8], index: usize) -> SaidStep
-    ensures { result ≡ step_of a (length region.now) index }
-{
-    step_in(a, region.len(), index)
-}
-
 #[unsafe(no_mangle)]
 pub extern "C" fn miravoly_walk(arena: &Arena, region: &[u8], index: usize) -> SaidStep
     ensures { result ≡ step_of arena.now (length region.now) index }
 {
-    walk_by_value(*arena, region, index)
+    step_in(arena, region.len(), index)
 }

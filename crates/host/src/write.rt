@@ -2,18 +2,10 @@
 ghost use Rattle.std.specs.Prelude.{◌≡◌, length};
 ghost use Rattle.calls.specs.Allocate.{allocate_of};
 ghost use Rattle.calls.specs.Write.{copy_in_bytes, fill_bytes};
-ghost use Rattle.host.specs.Said.{said_given, stored_given};
+ghost use Rattle.host.specs.Said.{said_given};
 
-use crate::answers::stored_given;
-use crate::{Said, Stored};
+use crate::Said;
 use arena::Arena;
-
-fn copy_in_by_value(a: Arena, region: &mut [u8], source: &[u8], align: usize) -> Stored
-    ensures value { result ≡ stored_given (allocate_of a (length region.old) (length source.now) align) }
-    ensures region_after { region.new ≡ copy_in_bytes a region.old source.now align }
-{
-    stored_given(calls::write::copy_in(a, region, source, align))
-}
 
 #[unsafe(no_mangle)]
 pub extern "C" fn miravoly_copy_in(
@@ -26,16 +18,9 @@ pub extern "C" fn miravoly_copy_in(
     ensures arena_after { arena.new ≡ (allocate_of arena.old (length region.old) (length source.now) align).arena }
     ensures region_after { region.new ≡ copy_in_bytes arena.old region.old source.now align }
 {
-    let got = copy_in_by_value(*arena, region, source, align);
+    let got = calls::write::copy_in(*arena, region, source, align);
     *arena = got.arena;
-    got.said
-}
-
-fn fill_by_value(a: Arena, region: &mut [u8], size: usize, align: usize, value: u8) -> Stored
-    ensures value { result ≡ stored_given (allocate_of a (length region.old) size align) }
-    ensures region_after { region.new ≡ fill_bytes a region.old size align value }
-{
-    stored_given(calls::write::fill_in(a, region, size, align, value))
+    got.answer.into()
 }
 
 #[unsafe(no_mangle)]
@@ -50,7 +35,7 @@ pub extern "C" fn miravoly_fill(
     ensures arena_after { arena.new ≡ (allocate_of arena.old (length region.old) size align).arena }
     ensures region_after { region.new ≡ fill_bytes arena.old region.old size align value }
 {
-    let got = fill_by_value(*arena, region, size, align, value);
+    let got = calls::write::fill_in(*arena, region, size, align, value);
     *arena = got.arena;
-    got.said
+    got.answer.into()
 }

@@ -1,8 +1,8 @@
 // The calls that can answer STATE. Each names the block of one byte at the current pointer where it names one.
 use arena::{Arena, Outcome};
-use calls::{Allocation, Token};
+use calls::Token;
 use std::fmt;
-use trial::number::{number_or_0, offset_of, refusal_of};
+use trial::number::number_or_0;
 use trial::row::current_pointer;
 
 #[derive(Clone, Copy)]
@@ -74,16 +74,16 @@ pub struct Asked {
     pub arena: Arena,
 }
 
-fn given(got: Allocation) -> Asked {
+fn given(got: Outcome<usize>) -> Asked {
     Asked {
-        refusal: number_or_0(offset_of(got.answer).err()),
+        refusal: number_or_0(got.answer),
         arena: got.arena,
     }
 }
 
-fn done(got: Outcome) -> Asked {
+fn done(got: Outcome<()>) -> Asked {
     Asked {
-        refusal: number_or_0(refusal_of(got.answer)),
+        refusal: number_or_0(got.answer),
         arena: got.arena,
     }
 }
@@ -91,7 +91,7 @@ fn done(got: Outcome) -> Asked {
 fn with_token(a: Arena, region: &[u8]) -> Asked {
     let got = takeback::tokens::allocate_with_token(a, region, 1, 1);
     Asked {
-        refusal: number_or_0(offset_of(got.answer).err()),
+        refusal: number_or_0(got.answer),
         arena: got.arena,
     }
 }
@@ -107,7 +107,7 @@ fn cancel(a: Arena, p: usize) -> Asked {
 // This and the next two hand no record back.
 fn lend_answer(a: Arena, region: &[u8], p: usize) -> Asked {
     Asked {
-        refusal: number_or_0(refusal_of(calls::lend::lend_answer(a, region, p, 1, 1))),
+        refusal: number_or_0(calls::lend::lend_answer(a, region, p, 1, 1)),
         arena: a,
     }
 }

@@ -1,9 +1,8 @@
 -- The machine's text only grows, and the end adds to it; so it is the beginning of the text of every file that goes on from here. Assumes nothing.
 use Prim.Native.Nat.{ℕ}
-use native.Mathlib.Omega.{arith}
 use mathlib.Core.Bool.{Bool, true, false, cond}
 use mathlib.Core.List.{List, [], ◌∷◌, ◌++◌, append_assoc, append-nil}
-use mathlib.Core.Option.{Option, none, some}
+use Rattle.std.specs.Prelude.{Option, None, Some}
 use mathlib.Core.Path.{◌≡◌, refl, sym, ap, ◌∙◌}
 use lib.Dec.{ltb}
 use lib.ListN.{length}
@@ -23,12 +22,6 @@ record Grows (text : List ℕ) (s : Machine) : Type 0 where
   begins : Begins text s.text
   quiet : s.stage ≡ heading → s.text ≡ []
 
-no-heading : {A : Type 0} (stage : Stage) → stage ≡ heading → (stage ≡ running) → A
-no-heading stage e f = let y : ◌≡◌ {A = ℕ} 0 1 = cc in absurd (omega arith)
-
-stopped-heading : {A : Type 0} (stage : Stage) → stage ≡ heading → (stage ≡ stopped) → A
-stopped-heading stage e f = let y : ◌≡◌ {A = ℕ} 0 1 = cc in absurd (omega arith)
-
 begins-all : (text : List ℕ) → Begins text text
 begins-all text = record { rest = []; joined = append-nil text }
 
@@ -45,18 +38,18 @@ header-grows : (lent pending : List ℕ) → Grows [] (header_fed lent pending)
 unfolding header_fed headed
 header-grows lent pending = go (ltb (length pending) header_size) (header_of pending)
   where
-    go : (b : Bool) (o : Option Header) → Grows [] (cond b (machine_at heading 1 (memory_for lent none) pending []) (headed lent o))
+    go : (b : Bool) (o : Option Header) → Grows [] (cond b (machine_at heading 1 (memory_for lent None) pending []) (headed lent o))
     go true o = record { begins = begins-none []; quiet = λ e. refl }
-    go false none = record { begins = begins-none (headed lent none).text; quiet = λ e. stopped-heading stopped e refl }
-    go false (some h) = record { begins = begins-none []; quiet = λ e. no-heading running e refl }
+    go false None = record { begins = begins-none (headed lent None).text; quiet = λ e. cc }
+    go false (Some h) = record { begins = begins-none []; quiet = λ e. cc }
 
 record-grows : (f : Front) (n : ℕ) (m : Memory) (pending text : List ℕ) → Grows text (record_fed f n m pending text)
 unfolding record_fed
-record-grows nothing n m pending text = record { begins = begins-all text; quiet = λ e. no-heading running e refl }
-record-grows part n m pending text = record { begins = begins-all text; quiet = λ e. no-heading running e refl }
-record-grows bad n m pending text = record { begins = begins-more (ending_line n bad_record) (begins-all text); quiet = λ e. stopped-heading stopped e refl }
+record-grows nothing n m pending text = record { begins = begins-all text; quiet = λ e. cc }
+record-grows part n m pending text = record { begins = begins-all text; quiet = λ e. cc }
+record-grows bad n m pending text = record { begins = begins-more (ending_line n bad_record) (begins-all text); quiet = λ e. cc }
 record-grows (whole size r) n m pending text =
-    record { begins = begins-more (line_of n (run r m).reply) (begins-all text); quiet = λ e. no-heading running e refl }
+    record { begins = begins-more (line_of n (run r m).reply) (begins-all text); quiet = λ e. cc }
 
 byte-grows : (lent : List ℕ) (stage : Stage) (s : Machine) (b : ℕ) → s.stage ≡ stage → (s.stage ≡ heading → s.text ≡ []) → Grows s.text (fed_at lent stage s b)
 unfolding fed_at

@@ -3,5 +3,4 @@ pub mod Over
 pub mod Parts
 pub mod Passages
 pub mod Reached
-pub mod Signs
 pub mod Steps

@@ -5,7 +5,7 @@ use Prim.Native.Nat.{ℕ, ◌≤◌, ◌<◌}
 use native.Mathlib.Omega.{arith}
 use mathlib.Core.Bool.{Bool, true, false, ◌&&◌, cond}
 use mathlib.Core.List.{List, [], ◌∷◌, ◌++◌, append_assoc, append-nil}
-use mathlib.Core.Option.{Option, none, some}
+use Rattle.std.specs.Prelude.{Option, None, Some}
 use mathlib.Core.Path.{◌≡◌, refl, sym, ap, ◌∙◌, subst}
 use lib.Dec.{leb, ltb, eqb}
 use lib.ListN.{length, take, drop, length-append, take-append-drop}
@@ -25,7 +25,7 @@ use Rattle.requests.proofs.Ready.{stays-ready, whole-text}
 use Rattle.relay.specs.declared.Next.{Next}
 use Rattle.relay.specs.declared.Next.TheVariants.{Feed, Read, Write, Done, ReadFailed, WriteFailed, TooLong}
 use Rattle.relay.specs.Passage.{Passage, begun_with, lent_bytes, asked}
-use Rattle.relay.specs.Event.{Event, feeds, gives, ends, read_fails, takes, write_fails, interrupts, Sizes, sizes, stepped, asks_fed, after_fed, after_got, after_end, asks_took, after_took, fed_on, read_on, written_on, goes_on, after_event, passed_on}
+use Rattle.relay.specs.Event.{Event, feeds, gives, ends, read_fails, takes, write_fails, Sizes, sizes, stepped, asks_fed, after_fed, after_got, after_end, asks_took, after_took, fed_on, read_on, written_on, goes_on, after_event, passed_on}
 use Rattle.relay.specs.Passing.{Begins, Standing, Passing, EveryPassage}
 use Rattle.relay.proofs.Growing.{text-begins}
 
@@ -45,9 +45,6 @@ step-lent heading lent lent' n m window room h = rw (h refl)
 step-lent running lent lent' n m window room h = refl
 step-lent stopped lent lent' n m window room h = refl
 
-clash : {A : Type 0} → ◌≡◌ {A = ℕ} 0 1 → A
-clash e = absurd (omega (arith, e))
-
 -- where the header is still to come after a step, nothing was done
 Waits : Stage → ℕ → Memory → Stepped → Type 0
 Waits stage n m s = s.after.stage ≡ heading → (stage ≡ heading) × (s.after.memory ≡ m)
@@ -57,15 +54,15 @@ unfolding step_at run_step after_passed headed Waits
 step_waits heading lent n m window room = go (leb header_size (length window) && leb line_room room) (header_of window)
   where
     go : (b : Bool) (o : Option Header) → Waits heading n m (cond b (stepped_to (headed lent o) header_size) (stays heading n m))
-    go true none e = clash (cc)
-    go true (some h) e = clash (cc)
+    go true None e = cc
+    go true (Some h) e = cc
     go false o e = (refl, refl)
 step_waits running lent n m window room = go (bad_next room window (passed_of room n m window)) (passed_of room n m window)
   where
     go : (b : Bool) (p : Passed) → Waits running n m (after_passed b p (length window))
-    go true p e = clash (cc)
-    go false p e = clash (cc)
-step_waits stopped lent n m window room = λ e. clash (cc)
+    go true p e = cc
+    go false p e = cc
+step_waits stopped lent n m window room = λ e. cc
 
 -- what is no whole record stays none where nothing was taken
 RestAfter : List ℕ → Stage → Stepped → Type 0
@@ -99,7 +96,7 @@ record Before (lent : List ℕ) (p : Passage) : Type 0 where
   taken : List ℕ
   gone : gone_on lent (begun lent) pieces ≡ gone_at taken (p.written ++ p.text) p.stage p.number p.memory
   all : taken ++ p.pending ≡ p.read
-  fresh : p.stage ≡ heading → (p.memory ≡ memory_for lent none) × (p.beyond ≡ lent)
+  fresh : p.stage ≡ heading → (p.memory ≡ memory_for lent None) × (p.beyond ≡ lent)
 
 Stand : Bool → List ℕ → Passage → Type 0
 Stand false lent p = Before lent p
@@ -108,17 +105,13 @@ Stand true lent p = p.written ++ p.text ≡ (replay_of lent p.read).text
 -- what is known by what is asked
 Asked : Next → Bool → List ℕ → Stage → List ℕ → ℕ → Type 0
 Asked Feed false text stage pending input = text ≡ []
-Asked Feed true text stage pending input = ⊥
 Asked Read false text stage pending input = (text ≡ []) × (is_rest stage pending ≡ true) × (length pending < input)
-Asked Read true text stage pending input = ⊥
 Asked Write over text stage pending input = 0 < length text
-Asked Done false text stage pending input = ⊥
 Asked Done true text stage pending input = text ≡ []
 Asked ReadFailed false text stage pending input = Unit
-Asked ReadFailed true text stage pending input = ⊥
 Asked WriteFailed over text stage pending input = 0 < length text
 Asked TooLong false text stage pending input = Unit
-Asked TooLong true text stage pending input = ⊥
+Asked next over text stage pending input = ⊥
 
 record Kept (lent : List ℕ) (input : ℕ) (p : Passage) : Type 0 where
   stand : Stand p.ended lent p
@@ -157,7 +150,7 @@ module _ (lent : List ℕ) (input output : ℕ) (long : most_region ≤ length l
 
     -- while the header is not whole the lent bytes are as they were
     waited : Before lent p → (p.stage ≡ heading) × (step.after.memory ≡ p.memory) →
-        (step.after.memory ≡ memory_for lent none) × (drop step.after.memory.arena.head.region (lent_bytes p) ≡ lent)
+        (step.after.memory ≡ memory_for lent None) × (drop step.after.memory.arena.head.region (lent_bytes p) ≡ lent)
     unfolding memory_for holding
     waited b w =
         let none_yet = w.1 ∙ (b.fresh w.0).0 in
@@ -281,45 +274,30 @@ module _ (lent : List ℕ) (input output : ℕ) (long : most_region ≤ length l
     on-feed : (over : Bool) → p.ended ≡ over → Stand over lent p → Asked Feed over p.text p.stage p.pending input → (e : Event) → Kept lent input (fed_on z p e)
     unfolding fed_on Stand Asked
     on-feed false o b empty feeds = fed-kept p few b o empty
-    on-feed false o b empty (gives piece) = k
-    on-feed false o b empty ends = k
-    on-feed false o b empty read_fails = k
-    on-feed false o b empty (takes n) = k
-    on-feed false o b empty write_fails = k
-    on-feed false o b empty interrupts = k
+    on-feed false o b empty e = k
     on-feed true o b empty e = absurd empty
 
     on_read : (over : Bool) → p.ended ≡ over → Stand over lent p → Asked Read over p.text p.stage p.pending input → (e : Event) → Kept lent input (read_on z p e)
     unfolding read_on Stand Asked
-    on_read false o b a feeds = k
     on_read false o b a (gives piece) = gave_kept p few piece b o a.0
     on_read false o b a ends = ended-kept p few b a.0 a.1
     on_read false o b a read_fails = record { stand = asked-stand p.ended p ReadFailed k.stand; knows = rw o tt }
-    on_read false o b a (takes n) = k
-    on_read false o b a write_fails = k
-    on_read false o b a interrupts = k
+    on_read false o b a e = k
     on_read true o b a e = absurd a
 
     on-write : 0 < length p.text → (e : Event) → Kept lent input (written_on p e)
     unfolding written_on Asked
-    on-write more feeds = k
-    on-write more (gives piece) = k
-    on-write more ends = k
-    on-write more read_fails = k
     on-write more (takes n) =
         record { stand = took-stand p.ended p n k.stand; knows = took-knows p.ended (drop n p.text) p.stage p.pending }
     on-write more write_fails = record { stand = asked-stand p.ended p WriteFailed k.stand; knows = more }
-    on-write more interrupts = k
+    on-write more e = k
 
     goes : (next : Next) → Asked next p.ended p.text p.stage p.pending input → (e : Event) → Kept lent input (goes_on next z p e)
     unfolding goes_on Asked
     goes Feed a e = on-feed p.ended refl k.stand a e
     goes Read a e = on_read p.ended refl k.stand a e
     goes Write a e = on-write a e
-    goes Done a e = k
-    goes ReadFailed a e = k
-    goes WriteFailed a e = k
-    goes TooLong a e = k
+    goes next a e = k
 
     keeps : (e : Event) → Kept lent input (after_event z p e)
     unfolding after_event
@@ -329,30 +307,12 @@ module _ (lent : List ℕ) (input output : ℕ) (long : most_region ≤ length l
 read-grows : (next : Next) (z : Sizes) (p : Passage) (e : Event) → length p.read ≤ length (goes_on next z p e).read
 unfolding goes_on fed_on read_on written_on after_fed
 read-grows Feed z p feeds = omega arith
-read-grows Feed z p (gives piece) = omega arith
-read-grows Feed z p ends = omega arith
-read-grows Feed z p read_fails = omega arith
-read-grows Feed z p (takes n) = omega arith
-read-grows Feed z p write_fails = omega arith
-read-grows Feed z p interrupts = omega arith
-read-grows Read z p feeds = omega arith
+read-grows Feed z p e = omega arith
 read-grows Read z p (gives piece) = omega (arith, length-append p.read piece)
-read-grows Read z p ends = omega arith
-read-grows Read z p read_fails = omega arith
-read-grows Read z p (takes n) = omega arith
-read-grows Read z p write_fails = omega arith
-read-grows Read z p interrupts = omega arith
-read-grows Write z p feeds = omega arith
-read-grows Write z p (gives piece) = omega arith
-read-grows Write z p ends = omega arith
-read-grows Write z p read_fails = omega arith
+read-grows Read z p e = omega arith
 read-grows Write z p (takes n) = omega arith
-read-grows Write z p write_fails = omega arith
-read-grows Write z p interrupts = omega arith
-read-grows Done z p e = omega arith
-read-grows ReadFailed z p e = omega arith
-read-grows WriteFailed z p e = omega arith
-read-grows TooLong z p e = omega arith
+read-grows Write z p e = omega arith
+read-grows next z p e = omega arith
 
 all_read : (z : Sizes) (p : Passage) (events : List Event) → length p.read ≤ length (passed_on z p events).read
 unfolding passed_on after_event
@@ -392,12 +352,12 @@ module _ (lent : List ℕ) (input : ℕ) (p : Passage) where
   is-before : (over : Bool) → over ≡ false → Stand over lent p → Before lent p
   unfolding Stand
   is-before false e s = s
-  is-before true e s = clash (cc)
+  is-before true e s = cc
 
   is_whole : (over : Bool) → over ≡ true → Stand over lent p → p.written ++ p.text ≡ (replay_of lent p.read).text
   unfolding Stand
   is_whole true e s = s
-  is_whole false e s = clash (cc)
+  is_whole false e s = cc
 
   is_read : (over : Bool) → p.ended ≡ over → Asked Read over p.text p.stage p.pending input →
       (p.ended ≡ false) × (p.text ≡ []) × (is_rest p.stage p.pending ≡ true) × (length p.pending < input)
@@ -413,13 +373,10 @@ module _ (lent : List ℕ) (input : ℕ) (p : Passage) where
 
   none_left : (next : Next) → length p.text ≡ 0 → Asked next true p.text p.stage p.pending input → next ≡ Done
   unfolding Asked
-  none_left Feed e a = absurd a
-  none_left Read e a = absurd a
-  none_left Write e a = absurd (omega (arith, a, e))
   none_left Done e a = refl
-  none_left ReadFailed e a = absurd a
+  none_left Write e a = absurd (omega (arith, a, e))
   none_left WriteFailed e a = absurd (omega (arith, a, e))
-  none_left TooLong e a = absurd a
+  none_left next e a = absurd a
 
   passing : Kept lent input p → Passing lent input p
   passing k =

@@ -11,11 +11,11 @@ use Rattle.calls.specs.Bytes.{part}
 use Rattle.requests.specs.Header.{memory_for}
 use Rattle.requests.specs.Feed.{stage_said, memory_in}
 use Rattle.relay.specs.declared.Next.{Next}
-use Rattle.relay.specs.declared.Next.TheVariants.{Feed, Read, Write, Done, ReadFailed, WriteFailed, TooLong}
+use Rattle.relay.specs.declared.Next.TheVariants.{Feed, Read, Write}
 use Rattle.relay.specs.declared.Relay.{Relay}
 use Rattle.relay.specs.Passage.{Passage, passage_at, begun_with}
 use Rattle.relay.specs.Event.{Event, interrupts, Sizes, sizes, fed_on, read_on, written_on, goes_on, after_event, passed_on, passed}
-use Rattle.relay.specs.View.{Fits, Shows, begun_relay, GoesOn, Reached}
+use Rattle.relay.specs.View.{Fits, Shows, begun_relay, GoesBy, GoesOn, Reached}
 
 pub interrupted-stays : (z : Sizes) (p : Passage) → after_event z p interrupts ≡ p
 unfolding after_event goes_on fed_on read_on written_on
@@ -25,10 +25,7 @@ interrupted-stays z p = go p.asks
     go Feed = refl
     go Read = refl
     go Write = refl
-    go Done = refl
-    go ReadFailed = refl
-    go WriteFailed = refl
-    go TooLong = refl
+    go next = refl
 
 -- a relay that stays as it is goes on by an interruption
 pub stays_on : (r : Relay) (lent input output : List ℕ) → GoesOn r lent input output r lent input output
@@ -62,14 +59,17 @@ shows_kept r lent input other output p fits same kept shows =
 -- a read goes on by what it answered, if it keeps the bytes in hand
 pub read-on : (r r' : Relay) (lent input other output output' : List ℕ) (e : Event) → Fits r (length input) (length output) → length other ≡ length input →
     take r.filled other ≡ take r.filled input →
-    ((p : Passage) → Shows r lent other output p → Shows r' lent other output' (after_event (sizes (length lent) (length other) (length output)) p e)) →
-    GoesOn r lent input output r' lent other output'
+    GoesBy e r lent other output r' lent other output' → GoesOn r lent input output r' lent other output'
 unfolding GoesOn
 read-on r r' lent input other output output' e fits same kept step p shows = (
   e,
   subst (λ (n : ℕ). Shows r' lent other output' (after_event (sizes (length lent) n (length output)) p e)) same
       (step p (shows_kept r lent input other output p fits same kept shows)),
 )
+
+-- a relay that has begun fits all buffers, since nothing is in hand, and no read is asked for
+pub begun-fits : (input output : ℕ) → Fits begun_relay input output
+begun-fits input output = record { starts = omega arith; filled = omega arith; begins = omega arith; ends = omega arith; room = λ e. cc }
 
 -- at first nothing has happened: the passage is the one before the first byte
 pub begun-reached : (lent input output : List ℕ) → Reached 0 lent begun_relay lent input output

@@ -1,10 +1,10 @@
 -- Each step of the code shows the passage after its event. Assumes nothing.
-use Prim.Native.Nat.{ℕ, ◌+◌, ◌-◌, ◌≤◌, ◌<◌}
+use Prim.Native.Nat.{ℕ, zero, suc, ◌+◌, ◌-◌, ◌≤◌, ◌<◌}
 use native.Mathlib.Omega.{arith}
 use mathlib.Core.Bool.{Bool, true, false, ◌&&◌, cond}
 use mathlib.Core.List.{List, [], ◌∷◌, ◌++◌}
 use mathlib.Core.Path.{◌≡◌, refl, sym, ap, ◌∙◌, subst}
-use mathlib.Core.Logic.{◌⊎◌, inl, inr}
+use Rattle.std.specs.Prelude.{Ok}
 use lib.Dec.{leb, ltb}
 use lib.ListN.{length, take, drop, length-take, length-drop, take-append-drop, drop_of_length-le}
 use borrow.Author.Tests.{lt-ltb, le-ltb, eq-eqb, ne_eqb, ltb-true, ltb-false}
@@ -21,8 +21,8 @@ use Rattle.relay.specs.declared.Next.{Next}
 use Rattle.relay.specs.declared.Next.TheVariants.{Feed, Read, Write, Done, ReadFailed, WriteFailed, TooLong}
 use Rattle.relay.specs.declared.Relay.{Relay}
 use Rattle.relay.specs.Passage.{Passage, passage_at}
-use Rattle.relay.specs.Event.{Event, feeds, gives, ends, read_fails, takes, write_fails, interrupts, sizes, asks_fed, after_fed, asks_took, after_took, fed_on, read_on, written_on, goes_on, after_event}
-use Rattle.relay.specs.View.{relay_at, Fits, passage_of, Shows, asking, filled_by, written_by}
+use Rattle.relay.specs.Event.{Event, feeds, gives, ends, read_fails, takes, write_fails, interrupts, Sizes, sizes, asks_fed, after_fed, asks_took, after_took, fed_on, read_on, written_on, goes_on, after_event, read_answer, write_answer}
+use Rattle.relay.specs.View.{relay_at, Fits, passage_of, Shows, asking, filled_by, written_by, GoesBy}
 use Rattle.relay.proofs.Parts.{part_filled, part-used, part-used-up}
 
 -- what is put at the front of the output stands there
@@ -68,74 +68,59 @@ unfolding asks_took
 all-written text true e = rw e
 all-written text false e = rw e
 
+-- it is enough to look at the relay's own passages, and what the relay asks decides how the event is answered
 module _ (r : Relay) (lent input output : List ℕ) where
-  -- it is enough to look at the relay's own passages
-  shown : (r' : Relay) (lent' input' output' : List ℕ) (f : Passage → Passage) →
-      ((read written : List ℕ) → Shows r' lent' input' output' (f (passage_of read written r lent input output))) →
-      (p : Passage) → Shows r lent input output p → Shows r' lent' input' output' (f p)
-  unfolding Shows
-  shown r' lent' input' output' f h p e =
-      subst (λ (x : Passage). passage_of (f x).read (f x).written r' lent' input' output' ≡ f x) e (h p.read p.written)
+  abbrev z : Sizes
+  z = sizes (length lent) (length input) (length output)
 
-  -- what is asked decides how an event is answered
-  on-feed : r.next ≡ Feed → (read written : List ℕ) (e : Event) →
-      let p = passage_of read written r lent input output in after_event (sizes (length lent) (length input) (length output)) p e ≡ fed_on (sizes (length lent) (length input) (length output)) p e
-  unfolding after_event goes_on
-  on-feed h read written e = ap (λ (n : Next). goes_on n (sizes (length lent) (length input) (length output)) (passage_of read written r lent input output) e) h
+  abbrev own : List ℕ → List ℕ → Passage
+  own read written = passage_of read written r lent input output
 
-  on_read : r.next ≡ Read → (read written : List ℕ) (e : Event) →
-      let p = passage_of read written r lent input output in after_event (sizes (length lent) (length input) (length output)) p e ≡ read_on (sizes (length lent) (length input) (length output)) p e
-  unfolding after_event goes_on
-  on_read h read written e = ap (λ (n : Next). goes_on n (sizes (length lent) (length input) (length output)) (passage_of read written r lent input output) e) h
+  goes : (e : Event) (next : Next) (r' : Relay) (lent' input' output' : List ℕ) → r.next ≡ next →
+      ((read written : List ℕ) → Shows r' lent' input' output' (goes_on next z (own read written) e)) → GoesBy e r lent input output r' lent' input' output'
+  unfolding Shows after_event
+  goes e next r' lent' input' output' asked shown p shows =
+      subst (λ (x : Passage). Shows r' lent' input' output' (goes_on x.asks z x e)) shows
+      (subst (λ (n : Next). Shows r' lent' input' output' (goes_on n z (own p.read p.written) e)) (sym asked) (shown p.read p.written))
 
-  on-write : r.next ≡ Write → (read written : List ℕ) (e : Event) →
-      let p = passage_of read written r lent input output in after_event (sizes (length lent) (length input) (length output)) p e ≡ written_on p e
-  unfolding after_event goes_on
-  on-write h read written e = ap (λ (n : Next). goes_on n (sizes (length lent) (length input) (length output)) (passage_of read written r lent input output) e) h
+  pub read-failed : r.next ≡ Read → GoesBy read_fails r lent input output (asking r ReadFailed) lent input output
+  unfolding Shows goes_on read_on
+  read-failed asked = goes read_fails Read (asking r ReadFailed) lent input output asked (λ read written. refl)
 
-  pub read-failed : r.next ≡ Read → (p : Passage) → Shows r lent input output p → Shows (asking r ReadFailed) lent input output (after_event (sizes (length lent) (length input) (length output)) p read_fails)
-  unfolding Shows read_on
-  read-failed h =
-      shown (asking r ReadFailed) lent input output (λ x. after_event (sizes (length lent) (length input) (length output)) x read_fails) (λ read written. rw (on_read h read written read_fails) refl)
+  pub read-interrupted : r.next ≡ Read → GoesBy interrupts r lent input output r lent input output
+  unfolding Shows goes_on read_on
+  read-interrupted asked = goes interrupts Read r lent input output asked (λ read written. refl)
 
-  pub read-interrupted : r.next ≡ Read → (p : Passage) → Shows r lent input output p → Shows r lent input output (after_event (sizes (length lent) (length input) (length output)) p interrupts)
-  unfolding Shows read_on
-  read-interrupted h =
-      shown r lent input output (λ x. after_event (sizes (length lent) (length input) (length output)) x interrupts) (λ read written. rw (on_read h read written interrupts) refl)
-
-  pub read-gave : Fits r (length input) (length output) → r.next ≡ Read → (n : ℕ) (p : Passage) → Shows r lent input output p →
-      Shows (filled_by r n (length input)) lent input output (after_event (sizes (length lent) (length input) (length output)) p (gives (take n (drop r.filled input))))
-  unfolding Shows read_on filled_by
-  read-gave f h n =
-      shown (filled_by r n (length input)) lent input output (λ x. after_event (sizes (length lent) (length input) (length output)) x (gives (take n (drop r.filled input))))
+  pub read-gave : Fits r (length input) (length output) → r.next ≡ Read → (n : ℕ) →
+      GoesBy (gives (take n (drop r.filled input))) r lent input output (filled_by r n (length input)) lent input output
+  unfolding Shows goes_on read_on filled_by
+  read-gave f asked n =
+      goes (gives (take n (drop r.filled input))) Read (filled_by r n (length input)) lent input output asked
       (λ read written.
-      rw (on_read h read written (gives (take n (drop r.filled input))))
-      (passage-same (read ++ take n (drop r.filled input)) written (part_filled input r.start r.filled f.starts n f.filled) refl refl refl refl refl refl))
+      passage-same (read ++ take n (drop r.filled input)) written (part_filled input r.start r.filled f.starts n f.filled) refl refl refl refl refl refl)
 
   pub read-ended : r.next ≡ Read → {output' : List ℕ} {w : ℕ} →
       Put output 0 (final_text (leb end_room (length output) && sound_of r.state.arena) (stage_said r.state.stage) r.state.number r.state.arena (part input r.start (r.filled - r.start))) output' w →
-      w ≤ length output' → length output' ≡ length output → (p : Passage) → Shows r lent input output p →
-      Shows (relay_at r.state r.start r.filled 0 w true Write) lent input output' (after_event (sizes (length lent) (length input) (length output)) p ends)
-  unfolding Shows read_on
-  read-ended h {output'} {w} put fits same =
-      shown (relay_at r.state r.start r.filled 0 w true Write) lent input output' (λ x. after_event (sizes (length lent) (length input) (length output)) x ends)
-      (λ read written. rw (on_read h read written ends) (passage-same read written refl (put_front put fits same) refl refl refl refl refl))
+      w ≤ length output' → length output' ≡ length output →
+      GoesBy ends r lent input output (relay_at r.state r.start r.filled 0 w true Write) lent input output'
+  unfolding Shows goes_on read_on
+  read-ended asked {output'} {w} put fits same =
+      goes ends Read (relay_at r.state r.start r.filled 0 w true Write) lent input output' asked
+      (λ read written. passage-same read written refl (put_front put fits same) refl refl refl refl refl)
 
-  pub write-failed : r.next ≡ Write → (p : Passage) → Shows r lent input output p → Shows (asking r WriteFailed) lent input output (after_event (sizes (length lent) (length input) (length output)) p write_fails)
-  unfolding Shows written_on
-  write-failed h =
-      shown (asking r WriteFailed) lent input output (λ x. after_event (sizes (length lent) (length input) (length output)) x write_fails) (λ read written. rw (on-write h read written write_fails) refl)
+  pub write-failed : r.next ≡ Write → GoesBy write_fails r lent input output (asking r WriteFailed) lent input output
+  unfolding Shows goes_on written_on
+  write-failed asked = goes write_fails Write (asking r WriteFailed) lent input output asked (λ read written. refl)
 
-  pub write-interrupted : r.next ≡ Write → (p : Passage) → Shows r lent input output p → Shows r lent input output (after_event (sizes (length lent) (length input) (length output)) p interrupts)
-  unfolding Shows written_on
-  write-interrupted h =
-      shown r lent input output (λ x. after_event (sizes (length lent) (length input) (length output)) x interrupts) (λ read written. rw (on-write h read written interrupts) refl)
+  pub write-interrupted : r.next ≡ Write → GoesBy interrupts r lent input output r lent input output
+  unfolding Shows goes_on written_on
+  write-interrupted asked = goes interrupts Write r lent input output asked (λ read written. refl)
 
-  pub write-took : Fits r (length input) (length output) → r.next ≡ Write → (n : ℕ) (p : Passage) → Shows r lent input output p →
-      Shows (written_by r n) lent input output (after_event (sizes (length lent) (length input) (length output)) p (takes n))
-  unfolding Shows written_on written_by
-  write-took f h n =
-      shown (written_by r n) lent input output (λ x. after_event (sizes (length lent) (length input) (length output)) x (takes n)) (λ read written. rw (on-write h read written (takes n)) (go read written (ltb n (r.to - r.from)) refl))
+  pub write-took : Fits r (length input) (length output) → r.next ≡ Write → (n : ℕ) →
+      GoesBy (takes n) r lent input output (written_by r n) lent input output
+  unfolding Shows goes_on written_on written_by
+  write-took f asked n =
+      goes (takes n) Write (written_by r n) lent input output asked (λ read written. go read written (ltb n (r.to - r.from)) refl)
     where
       text : List ℕ
       text = part output r.from (r.to - r.from)
@@ -143,7 +128,7 @@ module _ (r : Relay) (lent input output : List ℕ) where
       go : (read written : List ℕ) (b : Bool) → ltb n (r.to - r.from) ≡ b →
           let r' = cond b (relay_at r.state r.start r.filled (r.from + n) r.to r.is_ended Write)
           (relay_at r.state r.start r.filled r.to r.to r.is_ended (cond r.is_ended Done Feed)) in
-          passage_of read (written ++ take n text) r' lent input output ≡ after_took (passage_of read written r lent input output) n
+          passage_of read (written ++ take n text) r' lent input output ≡ after_took (own read written) n
       go read written true t =
           let few : n < r.to - r.from = ltb-true n (r.to - r.from) t in
           let left = part-used output r.from r.to f.begins n f.ends (omega (arith, few)) in
@@ -156,22 +141,10 @@ module _ (r : Relay) (lent input output : List ℕ) where
           passage-same read (written ++ take n text) refl none refl refl refl refl (all-written (drop n text) r.is_ended
           (drop_of_length-le text {i = n} (omega (arith, many, length-take (r.to - r.from) (drop r.from output)))))
 
--- the code goes from one relay to another over an event
-abbrev Goes : Relay → Relay → List ℕ → List ℕ → List ℕ → Event → Type 0
-Goes r r' input output output' e =
-    Fits r' (length input) (length output')
-    × ((lent : List ℕ) (p : Passage) → Shows r lent input output p →
-    Shows r' lent input output' (after_event (sizes (length lent) (length input) (length output)) p e))
-
-pub goes_by : (r r' r'' : Relay) (input output output' : List ℕ) {e e' : Event} → e ≡ e' → r' ≡ r'' → Goes r r'' input output output' e' → Goes r r' input output output' e
-goes_by r r' r'' input output output' {e} {e'} event same g = subst (λ (x : Event). Goes r r' input output output' x) (sym event) (subst (λ (x : Relay). Goes r x input output output' e') (sym same) g)
-
-not-read : {next : Next} → next ≡ Read → (next ≡ Feed) ⊎ ((next ≡ Write) ⊎ ((next ≡ Done) ⊎ ((next ≡ ReadFailed) ⊎ (next ≡ WriteFailed)))) → ⊥
-not-read e (inl f) = let y : ◌≡◌ {A = ℕ} 0 1 = cc in omega arith
-not-read e (inr (inl f)) = let y : ◌≡◌ {A = ℕ} 0 1 = cc in omega arith
-not-read e (inr (inr (inl f))) = let y : ◌≡◌ {A = ℕ} 0 1 = cc in omega arith
-not-read e (inr (inr (inr (inl f)))) = let y : ◌≡◌ {A = ℕ} 0 1 = cc in omega arith
-not-read e (inr (inr (inr (inr f)))) = let y : ◌≡◌ {A = ℕ} 0 1 = cc in omega arith
+-- the code's relay after an answer, with what is shown of it whatever bytes are lent
+abbrev Goes : Event → Relay → List ℕ → List ℕ → Relay → List ℕ → Type 0
+Goes e r input output r' output' =
+    Fits r' (length input) (length output') × ((lent : List ℕ) → GoesBy e r lent input output r' lent input output')
 
 module _ (r : Relay) (input output : List ℕ) (f : Fits r (length input) (length output)) where
   fits-asking : (next : Next) → (next ≡ Read → ⊥) → Fits (asking r next) (length input) (length output)
@@ -190,16 +163,9 @@ module _ (r : Relay) (input output : List ℕ) (f : Fits r (length input) (lengt
             filled = omega (arith, ltb-true n (length input - r.filled) t);
             begins = f.begins;
             ends = f.ends;
-            room = λ e. absurd (not-read e (inl refl));
+            room = λ e. cc;
           }
-      go false t =
-          record {
-            starts = omega (arith, f.starts, f.filled);
-            filled = omega arith;
-            begins = f.begins;
-            ends = f.ends;
-            room = λ e. absurd (not-read e (inl refl));
-          }
+      go false t = record { starts = omega (arith, f.starts, f.filled); filled = omega arith; begins = f.begins; ends = f.ends; room = λ e. cc }
 
   fits-written : (n : ℕ) → Fits (written_by r n) (length input) (length output)
   unfolding written_by
@@ -215,134 +181,103 @@ module _ (r : Relay) (input output : List ℕ) (f : Fits r (length input) (lengt
             filled = f.filled;
             begins = omega (arith, ltb-true n (r.to - r.from) t);
             ends = f.ends;
-            room = λ e. absurd (not-read e (inr (inl refl)));
+            room = λ e. cc;
           }
-      go false t true =
-          record {
-            starts = f.starts;
-            filled = f.filled;
-            begins = omega arith;
-            ends = f.ends;
-            room = λ e. absurd (not-read e (inr (inr (inl refl))));
-          }
-      go false t false =
-          record { starts = f.starts; filled = f.filled; begins = omega arith; ends = f.ends; room = λ e. absurd (not-read e (inl refl)) }
+      go false t true = record { starts = f.starts; filled = f.filled; begins = omega arith; ends = f.ends; room = λ e. cc }
+      go false t false = record { starts = f.starts; filled = f.filled; begins = omega arith; ends = f.ends; room = λ e. cc }
 
-  pub read-failed-goes : r.next ≡ Read → Goes r (asking r ReadFailed) input output output read_fails
-  read-failed-goes h = (fits-asking ReadFailed (λ e. not-read e (inr (inr (inr (inl refl))))), λ lent. read-failed r lent input output h)
+  pub read-failed-goes : r.next ≡ Read → Goes read_fails r input output (asking r ReadFailed) output
+  read-failed-goes asked = (fits-asking ReadFailed (λ e. cc), λ lent. read-failed r lent input output asked)
 
-  pub read-interrupted-goes : r.next ≡ Read → Goes r r input output output interrupts
-  read-interrupted-goes h = (f, λ lent. read-interrupted r lent input output h)
+  pub read-interrupted-goes : r.next ≡ Read → Goes interrupts r input output r output
+  read-interrupted-goes asked = (f, λ lent. read-interrupted r lent input output asked)
 
-  pub read-gave-goes : r.next ≡ Read → (n : ℕ) → Goes r (filled_by r n (length input)) input output output (gives (take n (drop r.filled input)))
-  read-gave-goes h n = (fits-filled n, λ lent. read-gave r lent input output f h n)
+  pub read-gave-goes : r.next ≡ Read → (n : ℕ) → (n ≡ 0 → ⊥) → Goes (read_answer (Ok n) (drop r.filled input)) r input output (filled_by r n (length input)) output
+  unfolding read_answer
+  read-gave-goes asked zero some = absurd (some refl)
+  read-gave-goes asked (suc n) some = (fits-filled (suc n), λ lent. read-gave r lent input output f asked (suc n))
 
   pub read-ended-goes : r.next ≡ Read → {output' : List ℕ} {w : ℕ} →
       Put output 0 (final_text (leb end_room (length output) && sound_of r.state.arena) (stage_said r.state.stage) r.state.number r.state.arena (part input r.start (r.filled - r.start))) output' w →
-      w ≤ length output' → length output' ≡ length output → Goes r (relay_at r.state r.start r.filled 0 w true Write) input output output' ends
-  read-ended-goes h {output'} {w} put fits same = (
-    record { starts = f.starts; filled = f.filled; begins = omega arith; ends = fits; room = λ e. absurd (not-read e (inr (inl refl))) },
-    λ lent. read-ended r lent input output h put fits same,
+      w ≤ length output' → length output' ≡ length output → Goes ends r input output (relay_at r.state r.start r.filled 0 w true Write) output'
+  read-ended-goes asked put fits same = (
+    record { starts = f.starts; filled = f.filled; begins = omega arith; ends = fits; room = λ e. cc },
+    λ lent. read-ended r lent input output asked put fits same,
   )
 
-  pub write-failed-goes : r.next ≡ Write → Goes r (asking r WriteFailed) input output output write_fails
-  write-failed-goes h = (fits-asking WriteFailed (λ e. not-read e (inr (inr (inr (inr refl))))), λ lent. write-failed r lent input output h)
+  pub write-failed-goes : r.next ≡ Write → Goes write_fails r input output (asking r WriteFailed) output
+  write-failed-goes asked = (fits-asking WriteFailed (λ e. cc), λ lent. write-failed r lent input output asked)
 
-  pub write-interrupted-goes : r.next ≡ Write → Goes r r input output output interrupts
-  write-interrupted-goes h = (f, λ lent. write-interrupted r lent input output h)
+  pub write-interrupted-goes : r.next ≡ Write → Goes interrupts r input output r output
+  write-interrupted-goes asked = (f, λ lent. write-interrupted r lent input output asked)
 
-  pub write-took-goes : r.next ≡ Write → (n : ℕ) → Goes r (written_by r n) input output output (takes n)
-  write-took-goes h n = (fits-written n, λ lent. write-took r lent input output f h n)
+  pub write-took-goes : r.next ≡ Write → (n : ℕ) → (n ≡ 0 → ⊥) → Goes (write_answer (Ok n)) r input output (written_by r n) output
+  unfolding write_answer
+  write-took-goes asked zero some = absurd (some refl)
+  write-took-goes asked (suc n) some = (fits-written (suc n), λ lent. write-took r lent input output f asked (suc n))
 
--- what feeding comes to, from what the machine's step came to
-module _ (r : Relay) (lent input output : List ℕ) {lent' output' : List ℕ} {did : Fed}
-    (came : Came
-    (step_of (ready r.state.arena r.state.number (length lent) (length (part input r.start (r.filled - r.start)))) (stage_said r.state.stage) lent
-    r.state.number (memory_in r.state.arena lent) (part input r.start (r.filled - r.start)) (length output)) lent output did lent' output')
-    (fits : Fits r (length input) (length output)) (written-fits : did.written ≤ length output') (same : length output' ≡ length output) where
+-- what the machine's step comes to, on the bytes in hand
+abbrev window_of : Relay → List ℕ → List ℕ
+window_of r input = part input r.start (r.filled - r.start)
+
+abbrev fed_step : Relay → List ℕ → List ℕ → List ℕ → Stepped
+fed_step r lent input output =
+    step_of (ready r.state.arena r.state.number (length lent) (length (window_of r input))) (stage_said r.state.stage) lent r.state.number
+    (memory_in r.state.arena lent) (window_of r input) (length output)
+
+module _ (r : Relay) (lent input output : List ℕ) {lent' output' : List ℕ} {did : Fed} (came : Came (fed_step r lent input output) lent output did lent' output')
+    (fits : Fits r (length input) (length output)) (inside : (did.taken ≤ length (window_of r input)) × (did.written ≤ length output'))
+    (same : length output' ≡ length output) (asked : r.next ≡ Feed) where
   window : List ℕ
-  window = part input r.start (r.filled - r.start)
-
-  step : Stepped
-  step =
-      step_of (ready r.state.arena r.state.number (length lent) (length window)) (stage_said r.state.stage) lent r.state.number
-      (memory_in r.state.arena lent) window (length output)
-
-  window-size : length window ≡ r.filled - r.start
-  unfolding window
-  window-size = length_part input r.start (r.filled - r.start) (omega (arith, fits.starts, fits.filled))
-
-  printed : did.written ≡ length step.after.text
-  unfolding step window
-  printed = omega (arith, came.put.moved)
-
-  fed-shows : (input' : List ℕ) → r.next ≡ Feed → (start filled to : ℕ) (next : Next) → part input' start (filled - start) ≡ drop did.taken window →
-      did.written ≡ to → next ≡ asks_fed (length input) step.after.text did.taken (length window) → (p : Passage) → Shows r lent input output p →
-      Shows (relay_at did.state start filled 0 to r.is_ended next) lent' input' output' (after_event (sizes (length lent) (length input) (length output)) p feeds)
-  unfolding Shows fed_on after_fed step window
-  fed-shows input' h start filled to next pending end asks =
-      shown r lent input output (relay_at did.state start filled 0 to r.is_ended next) lent' input' output'
-      (λ x. after_event (sizes (length lent) (length input) (length output)) x feeds)
-      (λ read written.
-      rw (on-feed r lent input output h read written feeds, take-append-drop r.state.arena.head.region lent)
-      (passage-same read written (pending ∙ ap (λ (k : ℕ). drop k window) came.taken)
-      (ap (λ (k : ℕ). part output' 0 (k - 0)) (sym end) ∙ put_front came.put written-fits same) came.stage came.number came.memory
-      (came.beyond ∙ ap (λ (m : Memory). drop m.arena.head.region lent) came.memory) (asks ∙ ap (λ (k : ℕ). asks_fed (length input) step.after.text k (length window)) came.taken)))
-
--- the code's relay after feeding, with what is shown of it
-abbrev FedGoes : Relay → List ℕ → List ℕ → List ℕ → List ℕ → List ℕ → List ℕ → Relay → Type 0
-FedGoes r lent input output lent' input' output' r' =
-    Fits r' (length input') (length output')
-    × ((p : Passage) → Shows r lent input output p → Shows r' lent' input' output' (after_event (sizes (length lent) (length input) (length output)) p feeds))
-
-module _ (r : Relay) (lent input output : List ℕ) {lent' output' : List ℕ} {did : Fed}
-    (came : Came
-    (step_of (ready r.state.arena r.state.number (length lent) (length (part input r.start (r.filled - r.start)))) (stage_said r.state.stage) lent
-    r.state.number (memory_in r.state.arena lent) (part input r.start (r.filled - r.start)) (length output)) lent output did lent' output')
-    (fits : Fits r (length input) (length output)) (inside : (did.taken ≤ length (part input r.start (r.filled - r.start))) × (did.written ≤ length output'))
-    (same : length output' ≡ length output) (h : r.next ≡ Feed) where
-  size : length (part input r.start (r.filled - r.start)) ≡ r.filled - r.start
-  size = length_part input r.start (r.filled - r.start) (omega (arith, fits.starts, fits.filled))
+  window = window_of r input
 
   text : List ℕ
-  text =
-      (step_of (ready r.state.arena r.state.number (length lent) (length (part input r.start (r.filled - r.start)))) (stage_said r.state.stage) lent
-      r.state.number (memory_in r.state.arena lent) (part input r.start (r.filled - r.start)) (length output)).after.text
+  text = (fed_step r lent input output).after.text
+
+  size : length window ≡ r.filled - r.start
+  unfolding window
+  size = length_part input r.start (r.filled - r.start) (omega (arith, fits.starts, fits.filled))
 
   text-size : did.written ≡ length text
   unfolding text
   text-size = omega (arith, came.put.moved)
 
-  used : part input (r.start + did.taken) (r.filled - (r.start + did.taken)) ≡ drop did.taken (part input r.start (r.filled - r.start))
-  used = part-used input r.start r.filled fits.starts did.taken fits.filled (omega (arith, inside.0, size))
+  taken : did.taken ≤ length window
+  unfolding window
+  taken = inside.0
 
-  pub lines-come : 0 < did.written → FedGoes r lent input output lent' input output' (relay_at did.state (r.start + did.taken) r.filled 0 did.written r.is_ended Write)
-  unfolding text window step
-  lines-come some = (
-    record {
-      starts = omega (arith, fits.starts, inside.0, size);
-      filled = fits.filled;
-      begins = omega arith;
-      ends = inside.1;
-      room = λ e. absurd (not-read e (inr (inl refl)));
-    },
-    fed-shows r lent input output came fits inside.1 same input h (r.start + did.taken) r.filled did.written Write used refl
-        (asks_write (length input) did.taken _ text (omega (arith, text-size, some))),
+  -- the code's relay after feeding, with what is shown of it
+  abbrev FedGoes : List ℕ → ℕ → ℕ → Next → Type 0
+  FedGoes input' start filled next =
+      let r' = relay_at did.state start filled 0 did.written r.is_ended next in
+      Fits r' (length input') (length output') × GoesBy feeds r lent input output r' lent' input' output'
+
+  fed-goes : (input' : List ℕ) (start filled : ℕ) (next : Next) → start ≤ filled → filled ≤ length input' → (next ≡ Read → filled < length input') →
+      part input' start (filled - start) ≡ drop did.taken window → next ≡ asks_fed (length input) text did.taken (length window) → FedGoes input' start filled next
+  unfolding Shows goes_on fed_on after_fed window text
+  fed-goes input' start filled next starts in-bounds room pending asks = (
+    record { starts = starts; filled = in-bounds; begins = omega arith; ends = inside.1; room = room },
+    goes r lent input output feeds Feed (relay_at did.state start filled 0 did.written r.is_ended next) lent' input' output' asked
+        (λ read written.
+        rw (take-append-drop r.state.arena.head.region lent)
+        (passage-same read written (pending ∙ ap (λ (k : ℕ). drop k window) came.taken) (put_front came.put inside.1 same) came.stage came.number
+        came.memory (came.beyond ∙ ap (λ (m : Memory). drop m.arena.head.region lent) came.memory)
+        (asks ∙ ap (λ (k : ℕ). asks_fed (length input) text k (length window)) came.taken))),
   )
 
-  pub more-to-feed : did.written ≤ 0 → 0 < did.taken → FedGoes r lent input output lent' input output' (relay_at did.state (r.start + did.taken) r.filled 0 0 r.is_ended Feed)
-  unfolding text window step
-  more-to-feed none some = (
-    record {
-      starts = omega (arith, fits.starts, inside.0, size);
-      filled = fits.filled;
-      begins = omega arith;
-      ends = omega arith;
-      room = λ e. absurd (not-read e (inl refl));
-    },
-    fed-shows r lent input output came fits inside.1 same input h (r.start + did.taken) r.filled 0 Feed used (omega (arith, none))
-        (asks-feed (length input) did.taken _ text (omega (arith, text-size, none)) some),
-  )
+  used : part input (r.start + did.taken) (r.filled - (r.start + did.taken)) ≡ drop did.taken window
+  unfolding window
+  used = part-used input r.start r.filled fits.starts did.taken fits.filled (omega (arith, taken, size))
+
+  pub lines-come : 0 < did.written → FedGoes input (r.start + did.taken) r.filled Write
+  lines-come some =
+      fed-goes input (r.start + did.taken) r.filled Write (omega (arith, fits.starts, taken, size)) fits.filled (λ e. cc) used
+      (asks_write (length input) did.taken _ text (omega (arith, text-size, some)))
+
+  pub more-to-feed : did.written ≤ 0 → 0 < did.taken → FedGoes input (r.start + did.taken) r.filled Feed
+  more-to-feed none some =
+      fed-goes input (r.start + did.taken) r.filled Feed (omega (arith, fits.starts, taken, size)) fits.filled (λ e. cc) used
+      (asks-feed (length input) did.taken _ text (omega (arith, text-size, none)) some)
 
   -- the bytes in hand are carried to the front
   module _ {input' : List ℕ} (carries : input' ≡ carried input r.start 0 (r.filled - r.start)) (no_line : did.written ≤ 0) (no_byte : did.taken ≤ 0) where
@@ -353,7 +288,8 @@ module _ (r : Relay) (lent input output : List ℕ) {lent' output' : List ℕ} {
     none-taken : did.taken ≡ 0
     none-taken = omega (arith, no_byte)
 
-    front : part input' 0 (r.filled - r.start - 0) ≡ drop did.taken (part input r.start (r.filled - r.start))
+    front : part input' 0 (r.filled - r.start - 0) ≡ drop did.taken window
+    unfolding window
     front =
         let whole : r.filled - r.start - 0 ≡ r.filled - r.start = omega arith in
         ap (part input' 0) whole
@@ -361,24 +297,12 @@ module _ (r : Relay) (lent input output : List ℕ) {lent' output' : List ℕ} {
         ∙ part-carried-same input r.start 0 (r.filled - r.start) (omega (arith, fits.starts, fits.filled)) (omega (arith, fits.starts, fits.filled))
         ∙ ap (λ (k : ℕ). drop k (part input r.start (r.filled - r.start))) (sym none-taken)
 
-    pub more-to-read : r.filled - r.start < length input' → FedGoes r lent input output lent' input' output' (relay_at did.state 0 (r.filled - r.start) 0 0 r.is_ended Read)
-    unfolding text window step
-    more-to-read room = (
-      record { starts = omega arith; filled = omega (arith, room); begins = omega arith; ends = omega arith; room = λ e. room },
-      fed-shows r lent input output came fits inside.1 same input' h 0 (r.filled - r.start) 0 Read front (omega (arith, no_line))
-          (asks_read (length input) did.taken _ text (omega (arith, text-size, no_line)) none-taken (omega (arith, size, room, input-size))),
-    )
+    pub more-to-read : r.filled - r.start < length input' → FedGoes input' 0 (r.filled - r.start) Read
+    more-to-read room =
+        fed-goes input' 0 (r.filled - r.start) Read (omega arith) (omega (arith, room)) (λ e. room) front
+        (asks_read (length input) did.taken _ text (omega (arith, text-size, no_line)) none-taken (omega (arith, size, room, input-size)))
 
-    pub too_much : length input' ≤ r.filled - r.start → FedGoes r lent input output lent' input' output' (relay_at did.state 0 (r.filled - r.start) 0 0 r.is_ended TooLong)
-    unfolding text window step
-    too_much full = (
-      record {
-        starts = omega arith;
-        filled = omega (arith, fits.starts, fits.filled, input-size);
-        begins = omega arith;
-        ends = omega arith;
-        room = λ e. let y : ◌≡◌ {A = ℕ} 0 1 = cc in absurd (omega arith);
-      },
-      fed-shows r lent input output came fits inside.1 same input' h 0 (r.filled - r.start) 0 TooLong front (omega (arith, no_line))
-          (asks_nothing (length input) did.taken _ text (omega (arith, text-size, no_line)) none-taken (omega (arith, size, full, input-size))),
-    )
+    pub too_much : length input' ≤ r.filled - r.start → FedGoes input' 0 (r.filled - r.start) TooLong
+    too_much full =
+        fed-goes input' 0 (r.filled - r.start) TooLong (omega arith) (omega (arith, fits.starts, fits.filled, input-size)) (λ e. cc) front
+        (asks_nothing (length input) did.taken _ text (omega (arith, text-size, no_line)) none-taken (omega (arith, size, full, input-size)))

@@ -1,11 +1,11 @@
 -- What can happen to a replay, and how far it has come after it.
-use Rattle.std.specs.Prelude.{ℕ, zero, suc, Bool, true, false, ◌&&◌, cond, List, [], ◌∷◌, ◌++◌, length, take, drop, leb, ltb, eqb, ℤ, pos, negsuc}
+use Rattle.std.specs.Prelude.{ℕ, zero, suc, Bool, true, false, ◌&&◌, cond, List, [], ◌∷◌, ◌++◌, length, take, drop, leb, ltb, eqb, Result, Ok, Err}
 use Rattle.arena.specs.Sound.{sound_of}
 use Rattle.requests.specs.Feed.{Stepped, ready, step_of, end_room, final_text}
 use Rattle.relay.specs.declared.Next.{Next}
 use Rattle.relay.specs.declared.Next.TheVariants.{Feed, Read, Write, Done, ReadFailed, WriteFailed, TooLong}
-use Rattle.relay.specs.declared.said.Said.{Said}
-use Rattle.relay.specs.declared.said.Said.TheVariants.{Failed, Interrupted, Nothing, Moved}
+use Rattle.relay.specs.declared.Failure.{Failure}
+use Rattle.relay.specs.declared.Failure.TheVariants.{Interrupted, Other}
 use Rattle.relay.specs.Passage.{Passage, passage_at, begun_with, lent_bytes, asked}
 
 -- the bytes in hand are fed; a read gives a piece, finds the end or fails; a write takes so many bytes or fails; a call is interrupted
@@ -67,40 +67,25 @@ after_took p n =
 -- an event that is no answer to what is asked changes nothing, and an interrupted call is asked for again
 unfoldable pub fed_on : Sizes → Passage → Event → Passage
 fed_on z p feeds = after_fed z p (stepped z p)
-fed_on z p (gives piece) = p
-fed_on z p ends = p
-fed_on z p read_fails = p
-fed_on z p (takes n) = p
-fed_on z p write_fails = p
-fed_on z p interrupts = p
+fed_on z p e = p
 
 unfoldable pub read_on : Sizes → Passage → Event → Passage
-read_on z p feeds = p
 read_on z p (gives piece) = after_got p piece
 read_on z p ends = after_end z p
 read_on z p read_fails = asked p ReadFailed
-read_on z p (takes n) = p
-read_on z p write_fails = p
-read_on z p interrupts = p
+read_on z p e = p
 
 unfoldable pub written_on : Passage → Event → Passage
-written_on p feeds = p
-written_on p (gives piece) = p
-written_on p ends = p
-written_on p read_fails = p
 written_on p (takes n) = after_took p n
 written_on p write_fails = asked p WriteFailed
-written_on p interrupts = p
+written_on p e = p
 
 -- once it is done, or something went wrong, nothing changes any more
 unfoldable pub goes_on : Next → Sizes → Passage → Event → Passage
 goes_on Feed z p e = fed_on z p e
 goes_on Read z p e = read_on z p e
 goes_on Write z p e = written_on p e
-goes_on Done z p e = p
-goes_on ReadFailed z p e = p
-goes_on WriteFailed z p e = p
-goes_on TooLong z p e = p
+goes_on next z p e = p
 
 unfoldable pub after_event : Sizes → Passage → Event → Passage
 after_event z p e = goes_on p.asks z p e
@@ -114,23 +99,16 @@ passed_on z p (e ∷ es) = passed_on z (after_event z p e) es
 abbrev pub passed : ℕ → ℕ → List ℕ → List Event → Passage
 passed input output lent events = passed_on (sizes (length lent) input output) (begun_with lent) events
 
--- a call answers a number: below 0 it failed, perhaps by a signal alone
-unfoldable pub said_of : ℤ → Bool → Said
-said_of (pos zero) interrupted = Nothing
-said_of (pos (suc n)) interrupted = Moved (suc n)
-said_of (negsuc n) true = Interrupted
-said_of (negsuc n) false = Failed
-
 -- a read that gives no byte has found the end; what it gave stands from here on
-unfoldable pub read_answer : Said → List ℕ → Event
-read_answer Failed given = read_fails
-read_answer Interrupted given = interrupts
-read_answer Nothing given = ends
-read_answer (Moved n) given = gives (take n given)
+unfoldable pub read_answer : Result ℕ Failure → List ℕ → Event
+read_answer (Ok zero) given = ends
+read_answer (Ok (suc n)) given = gives (take (suc n) given)
+read_answer (Err Interrupted) given = interrupts
+read_answer (Err Other) given = read_fails
 
 -- a write that takes no byte has failed
-unfoldable pub write_answer : Said → Event
-write_answer Failed = write_fails
-write_answer Interrupted = interrupts
-write_answer Nothing = write_fails
-write_answer (Moved n) = takes n
+unfoldable pub write_answer : Result ℕ Failure → Event
+write_answer (Ok zero) = write_fails
+write_answer (Ok (suc n)) = takes (suc n)
+write_answer (Err Interrupted) = interrupts
+write_answer (Err Other) = write_fails

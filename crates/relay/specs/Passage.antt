@@ -1,6 +1,6 @@
 -- How far a replay has come: what was read and written, what is in hand, and where the machine stands.
 use Rattle.std.specs.Prelude.{ℕ, Bool, false, List, [], ◌++◌}
-use Rattle.std.proofs.Math.Option.{none}
+use Rattle.std.specs.Prelude.{None}
 use Rattle.requests.specs.Header.{Memory, memory_for}
 use Rattle.requests.specs.Machine.{Stage, heading}
 use Rattle.relay.specs.declared.Next.{Next}
@@ -39,7 +39,7 @@ passage_at read written pending text stage number memory beyond ended asks =
 
 -- before the first byte
 abbrev pub begun_with : List ℕ → Passage
-begun_with lent = passage_at [] [] [] [] heading 1 (memory_for lent none) lent false Feed
+begun_with lent = passage_at [] [] [] [] heading 1 (memory_for lent None) lent false Feed
 
 -- every lent byte
 abbrev pub lent_bytes : Passage → List ℕ

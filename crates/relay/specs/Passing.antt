@@ -5,7 +5,7 @@ use Rattle.requests.specs.Machine.{machine_at, start, fed}
 use Rattle.requests.specs.Replay.{replay_of}
 use Rattle.requests.specs.Pieces.{is_rest}
 use Rattle.relay.specs.declared.Next.{Next}
-use Rattle.relay.specs.declared.Next.TheVariants.{Feed, Read, Write, Done, ReadFailed, WriteFailed, TooLong}
+use Rattle.relay.specs.declared.Next.TheVariants.{Feed, Read, Write, Done, ReadFailed, WriteFailed}
 use Rattle.relay.specs.Passage.{Passage, asked}
 use Rattle.relay.specs.Event.{Event, ends, read_fails, write_fails, Sizes, after_event, passed}
 
@@ -52,10 +52,7 @@ unfoldable pub is_over : Next → Bool
 is_over Feed = false
 is_over Read = false
 is_over Write = false
-is_over Done = true
-is_over ReadFailed = true
-is_over WriteFailed = true
-is_over TooLong = true
+is_over next = true
 
 -- once it is done, or something went wrong, nothing changes any more
 unfoldable pub OverStays : Type 0

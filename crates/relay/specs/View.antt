@@ -49,6 +49,12 @@ written_by r moved =
     cond (ltb moved (r.to - r.from)) (relay_at r.state r.start r.filled (r.from + moved) r.to r.is_ended Write)
     (relay_at r.state r.start r.filled r.to r.to r.is_ended (cond r.is_ended Done Feed))
 
+-- by this event the code has gone on from a relay and its buffers to others
+abbrev pub GoesBy : Event → Relay → List ℕ → List ℕ → List ℕ → Relay → List ℕ → List ℕ → List ℕ → Type 0
+GoesBy e r lent input output r' lent' input' output' =
+    (p : Passage) → Shows r lent input output p →
+    Shows r' lent' input' output' (after_event (sizes (length lent) (length input) (length output)) p e)
+
 -- by some event the code has gone on from a relay and its buffers to others
 unfoldable pub GoesOn : Relay → List ℕ → List ℕ → List ℕ → Relay → List ℕ → List ℕ → List ℕ → Type 0
 GoesOn r lent input output r' lent' input' output' =

@@ -2,40 +2,27 @@
 // error, and then there is no `held` line, since a file that was not read to its end has none.
 #![tactic(auto)]
 
-ghost use Rattle.std.specs.Prelude.{◌≡◌, ◌↔◌, ◌^◌, ◌<◌, ◌≤◌, false, length, take, IfOk, IfErr, OnOk, OnErr, IsTrue, pos, negsuc};
+ghost use Rattle.std.specs.Prelude.{◌≡◌, ◌↔◌, ◌≤◌, length, take, IfOk, IfErr, OnErr, IsErr, IsErrOf};
 ghost use Rattle.std.specs.Io.{ReadsAtMost};
 ghost use Rattle.std.specs.IoError.{error_kind};
 ghost use Rattle.relay.specs.Passing.{is_over};
 ghost use Rattle.relay.specs.View.{Fits, GoesOn, Stopped};
 
-use relay::feeding::feed_on;
-use relay::reading::after_read;
-use relay::writing::after_write;
-use relay::{Next, Relay, begin};
+use relay::{Failure, Next, Relay};
 use std::io;
 use std::io::{ErrorKind, Read, Write};
 use std::process::ExitCode;
 
-// Whether a signal came before the call moved a byte. std hands that on, and does not call again by itself.
-fn is_interrupted(answer: &io::Result<usize>) -> bool
-    ensures ok { OnOk answer.now (result ≡ false) }
-    ensures err { IfErr answer.now (λ e. IsTrue result ↔ (error_kind e ≡ ErrorKind.Interrupted)) }
+// What the library is handed of an answer: how many bytes the call moved, or why it failed. std hands an interruption on, and does not call again by itself.
+fn outcome_of(answer: &io::Result<usize>) -> Result<usize, Failure>
+    ensures ok { IfOk answer.now (λ n. result ≡ Ok n) }
+    ensures err { OnErr answer.now (IsErr result) }
+    ensures interrupted { IfErr answer.now (λ e. IsErrOf result Failure.Interrupted ↔ (error_kind e ≡ ErrorKind.Interrupted)) }
 {
     match answer {
-        Ok(_) => false,
-        Err(e) => e.kind() == ErrorKind::Interrupted,
-    }
-}
-
-// How many bytes the call moved; -1 where it failed.
-fn moved(answer: &io::Result<usize>) -> isize
-    requires { IfOk answer.now (λ n. n < 2 ^ 63) }
-    ensures ok { IfOk answer.now (λ n. result ≡ pos n) }
-    ensures err { OnErr answer.now (result ≡ negsuc 0) }
-{
-    match answer {
-        Ok(n) => *n as isize,
-        Err(_) => -1,
+        Ok(n) => Ok(*n),
+        Err(e) if e.kind() == ErrorKind::Interrupted => Err(Failure::Interrupted),
+        Err(_) => Err(Failure::Other),
     }
 }
 
@@ -48,7 +35,8 @@ fn read_past<R: Read>(input: &mut [u8], filled: usize, reader: &mut R) -> io::Re
     reader.read(&mut input[filled..])
 }
 
-// Makes the call that is asked for, and hands its answer on. Between two calls the library decides, and is proved. The answer is kept: it says why a call failed.
+// Makes the call that is asked for, and hands its answer on. Between two calls the library decides, and is proved. The answer is kept, since it says why a call
+// failed; it is no part of the relay, which is copied, as an error can't be.
 fn turn<R: Read, W: Write>(
     relay: Relay,
     lent: &mut [u8],
@@ -61,42 +49,32 @@ fn turn<R: Read, W: Write>(
     requires { Fits relay (length input.old) (length output.old) }
     ensures { Fits result (length input.new) (length output.new) × GoesOn relay lent.old input.old output.old result lent.new input.new output.new }
 {
-    let next = relay.next;
-    match next {
-        Next::Feed => feed_on(relay, lent, input, output),
+    match relay.next {
+        Next::Feed => relay.feed_on(lent, input, output),
         Next::Read => {
             *answer = read_past(input, relay.filled, reader);
-            after_read(relay, moved(answer), is_interrupted(answer), input, output)
+            relay.after_read(outcome_of(answer), input, output)
         }
         Next::Write => {
-            let from = relay.from;
-            let to = relay.to;
-            *answer = writer.write(&output[from..to]);
-            after_write(relay, moved(answer), is_interrupted(answer), input, output)
+            *answer = writer.write(&output[relay.from..relay.to]);
+            relay.after_write(outcome_of(answer), input, output)
         }
-        Next::Done => relay,
-        Next::ReadFailed => relay,
-        Next::WriteFailed => relay,
-        Next::TooLong => relay,
+        Next::Done | Next::ReadFailed | Next::WriteFailed | Next::TooLong => relay,
     }
 }
 
+#[tactic(auto, unfolding(relay::specs::Passing::is_over))]
 fn is_over(next: Next) -> bool
     ensures { result ≡ is_over next }
 {
-    match next {
-        Next::Feed => false,
-        Next::Read => false,
-        Next::Write => false,
-        Next::Done => true,
-        Next::ReadFailed => true,
-        Next::WriteFailed => true,
-        Next::TooLong => true,
-    }
+    matches!(
+        next,
+        Next::Done | Next::ReadFailed | Next::WriteFailed | Next::TooLong
+    )
 }
 
 // Where it stopped; the theorem over every passage asks for these lengths. A proved loop has to end, and nothing says that the input does, so that the turns
-// are counted down from a number that no run uses up.
+// are counted up to a number that no run reaches.
 fn replay<R: Read, W: Write>(
     lent: &mut [u8],
     input: &mut [u8],
@@ -108,14 +86,12 @@ fn replay<R: Read, W: Write>(
     requires { (65536 ≤ length lent.old) × (128 ≤ length output.old) }
     ensures { Stopped lent.old result lent.new input.new output.new }
 {
-    let mut relay = begin();
-    let mut turns = u64::MAX;
-    while 0 < turns {
+    let mut relay = Relay::begin();
+    for _ in 0..u64::MAX {
         relay = turn(relay, lent, input, output, reader, writer, answer);
         if is_over(relay.next) {
             return relay;
         }
-        turns -= 1;
     }
     relay
 }

@@ -3,7 +3,7 @@ use Prim.Native.Nat.{ℕ, ◌+◌, ◌-◌, ◌≤◌, ◌<◌, ◌^◌}
 use native.Mathlib.Omega.{arith}
 use mathlib.Core.Bool.{Bool, true, false, ◌&&◌, cond}
 use mathlib.Core.List.{List, [], ◌++◌}
-use mathlib.Core.Option.{Option, none, some}
+use Rattle.std.specs.Prelude.{Option, None, Some, ⊤}
 use mathlib.Core.Path.{◌≡◌, refl, sym, ap, ◌∙◌, subst}
 use lib.Dec.{leb, eqb}
 use lib.ListN.{length, take, drop, length-append}
@@ -82,7 +82,7 @@ record Made (h : Header) : Type 0 where
   minimum : allowed_minimum h.minimum ≡ true
   empty : (created_of h.region h.minimum 0).arena ≡ holding (fresh_head h.region h.minimum) []
 
-header_made : (bytes : List ℕ) {h : Header} → header_of bytes ≡ some h → Made h
+header_made : (bytes : List ℕ) {h : Header} → header_of bytes ≡ Some h → Made h
 unfolding header_of good_header
 header_made bytes {h} e =
     let p = only-passed (good_header bytes) (record { minimum = byte_at bytes 1; region = number32 bytes 2 }) e in
@@ -93,27 +93,27 @@ header_made bytes {h} e =
     (record {
       region = short;
       minimum = allowed;
-      empty = ap (λ (o : Outcome). o.arena) (made-empty (number32 bytes 2) (byte_at bytes 1) 0 (omega (arith, short)) (omega arith) allowed refl);
+      empty = ap (λ (o : Outcome ⊤). o.arena) (made-empty (number32 bytes 2) (byte_at bytes 1) 0 (omega (arith, short)) (omega arith) allowed refl);
     })
 
-pub header-region : (bytes : List ℕ) {h : Header} → header_of bytes ≡ some h →
+pub header-region : (bytes : List ℕ) {h : Header} → header_of bytes ≡ Some h →
     ((created_of h.region h.minimum 0).arena.head.region ≡ h.region) × (h.region ≤ most_region)
 unfolding holding
 header-region bytes e = let m = header_made bytes e in (ap (λ (a : Arena). a.head.region) m.empty, m.region)
 
-pub header-sound : (bytes : List ℕ) {h : Header} → header_of bytes ≡ some h → sound_of (created_of h.region h.minimum 0).arena ≡ true
+pub header-sound : (bytes : List ℕ) {h : Header} → header_of bytes ≡ Some h → sound_of (created_of h.region h.minimum 0).arena ≡ true
 header-sound bytes e = let m = header_made bytes e in emptied-sound (fresh-settings _ _ (omega (arith, m.region)) m.minimum) m.empty
 
 -- the memory of a good header, from the arena that was made
-pub header-memory : (lent bytes : List ℕ) {h : Header} (made : Outcome) → header_of bytes ≡ some h → made ≡ created_of h.region h.minimum 0 →
-    memory_in made.arena lent ≡ memory_for lent (some h)
+pub header-memory : (lent bytes : List ℕ) {h : Header} (made : Outcome ⊤) → header_of bytes ≡ Some h → made ≡ created_of h.region h.minimum 0 →
+    memory_in made.arena lent ≡ memory_for lent (Some h)
 unfolding memory_for
 header-memory lent bytes {h} made e m =
-    ap (λ (o : Outcome). memory_in o.arena lent) m
+    ap (λ (o : Outcome ⊤). memory_in o.arena lent) m
     ∙ ap (λ (k : ℕ). memory_of (created_of h.region h.minimum 0).arena (take k lent)) (header-region bytes e).0
 
 -- the memory of a bad one
-pub no-memory : (lent : List ℕ) (a : Arena) → a ≡ holding (fresh_head 0 1) [] → memory_in a lent ≡ memory_for lent none
+pub no-memory : (lent : List ℕ) (a : Arena) → a ≡ holding (fresh_head 0 1) [] → memory_in a lent ≡ memory_for lent None
 unfolding memory_for holding
 no-memory lent a e = ap (λ (a : Arena). memory_in a lent) e
 
@@ -171,35 +171,33 @@ module _ (a : Arena) (n : ℕ) (lent window out₀ : List ℕ) {got : Progress} 
         put = t.through.put;
       })
 
-  front-there : front_of (drop came.taken window) ≡ front_of (drop got.taken window)
+  -- the code's test is the definition's
+  tested : (leb line_room (length out - got.written) && is_bad (front_of (drop got.taken window))) ≡ bad_next (length out₀) window came
   unfolding came
-  front-there = ap (λ (k : ℕ). front_of (drop k window)) (sym t.through.taken)
+  tested =
+      let room : length out - got.written ≡ length out₀ - length came.text = omega (arith, ends_at, same) in
+      rw (room, t.through.taken)
 
-  pub came-no-room : length out - got.written < line_room →
+  pub came-good : leb line_room (length out - got.written) && is_bad (front_of (drop got.taken window)) ≡ false →
       Came (step_at running lent n (memory_in a lent) window (length out₀)) lent out₀
       (record { state = record { stage = Running; number = got.number; arena = got.arena }; taken = got.taken; written = got.written }) lent' out
-  came-no-room r = runs_on (rw (lt-leb line_room (length out₀ - length came.text) (omega (arith, ends_at, same, r))))
+  came-good b = runs_on (sym tested ∙ b)
 
-  pub came-good : line_room ≤ length out - got.written → is_bad (front_of (drop got.taken window)) ≡ false →
-      Came (step_at running lent n (memory_in a lent) window (length out₀)) lent out₀
-      (record { state = record { stage = Running; number = got.number; arena = got.arena }; taken = got.taken; written = got.written }) lent' out
-  came-good r b =
-      runs_on (rw (le-leb line_room (length out₀ - length came.text) (omega (arith, ends_at, same, r)), front-there) b)
-
-  pub came-bad : {out' : List ℕ} {w : ℕ} → line_room ≤ length out - got.written → is_bad (front_of (drop got.taken window)) ≡ true →
+  pub came-bad : {out' : List ℕ} {w : ℕ} → leb line_room (length out - got.written) && is_bad (front_of (drop got.taken window)) ≡ true →
       Put out got.written (decimal got.number ++ bad_record_text) out' w →
       Came (step_at running lent n (memory_in a lent) window (length out₀)) lent out₀
       (record { state = record { stage = Stopped; number = got.number; arena = got.arena }; taken = length window; written = w }) lent' out'
   unfolding after_passed stage_said came ending_line
-  came-bad r b q =
-      rw (by-test {stops = true} (rw (le-leb line_room (length out₀ - length came.text) (omega (arith, ends_at, same, r)), front-there) b))
+  came-bad b q =
+      let room = leb-true line_room (length out - got.written) (and_left (leb line_room (length out - got.written)) _ b) in
+      rw (by-test {stops = true} (sym tested ∙ b))
       (record {
         stage = refl;
         number = t.through.number;
         memory = t.through.memory;
         beyond = t.beyond;
         taken = refl;
-        put = rw (sym t.through.number) (put_then (omega (arith, ends_at, same, r)) t.through.put q);
+        put = rw (sym t.through.number) (put_then (omega (arith, ends_at, same, room)) t.through.put q);
       })
 
 -- a state that is ready
@@ -228,8 +226,8 @@ heading-inside lent n m window room = go (leb header_size (length window)) refl 
         Inside (cond (a && b) (stepped_to (headed lent o) header_size) (stays heading n m)) window room
     go false x b y o = stays-inside heading n m window room
     go true x false y o = stays-inside heading n m window room
-    go true x true y none = record { taken = leb-true header_size (length window) x; text = omega (arith, leb-true line_room room y) }
-    go true x true y (some h) = record { taken = leb-true header_size (length window) x; text = omega arith }
+    go true x true y None = record { taken = leb-true header_size (length window) x; text = omega (arith, leb-true line_room room y) }
+    go true x true y (Some h) = record { taken = leb-true header_size (length window) x; text = omega arith }
 
 running-inside : (lent : List ℕ) (n : ℕ) (m : Memory) (window : List ℕ) (room : ℕ) → Inside (step_at running lent n m window room) window room
 unfolding step_at run_step after_passed ending_line passed_of

@@ -1,18 +1,17 @@
 -- The header in pieces: its first six bytes settle it, whatever follows, and with fewer it is kept. Assumes nothing.
 use Prim.Native.Nat.{ℕ, ◌≤◌, ◌<◌}
 use native.Mathlib.Omega.{arith}
-use mathlib.Core.Bool.{Bool, true, false, ◌&&◌, cond}
+use mathlib.Core.Bool.{Bool, true, false, cond}
 use mathlib.Core.List.{List, [], ◌∷◌, ◌++◌, append_assoc, append-nil}
-use mathlib.Core.Option.{none}
+use Rattle.std.specs.Prelude.{None}
 use mathlib.Core.Path.{◌≡◌, refl}
-use lib.Dec.{ltb, leb, eqb}
+use lib.Dec.{ltb}
 use lib.ListN.{length, drop, length-append, get_or-append}
 use lib.Seq.{drop_at}
 use borrow.Author.Tests.{le-leb, lt-leb, lt-ltb, le-ltb, ltb-true, ltb-false}
 use Rattle.rounding.specs.First.{only}
-use Rattle.arena.specs.Sound.{allowed_minimum}
-use Rattle.requests.specs.Bytes.{byte_at, number32}
-use Rattle.requests.specs.Header.{header_size, most_region, good_header, header_of, memory_for}
+use Rattle.requests.specs.Bytes.{number32}
+use Rattle.requests.specs.Header.{header_size, good_header, header_of, memory_for}
 use Rattle.requests.specs.Machine.{Machine, heading, machine_at, headed, header_fed, fed_at, fed}
 
 pub header-stays : (p q : List ℕ) → header_size ≤ length p → header_of (p ++ q) ≡ header_of p
@@ -29,26 +28,19 @@ header-stays p q h =
       get_or-append p q 0 5 (omega arith),
     )
 
-pub short-header : (p : List ℕ) → length p < header_size → header_of p ≡ none
+pub short-header : (p : List ℕ) → length p < header_size → header_of p ≡ None
 unfolding header_of good_header only
 short-header p h = rw (lt-leb header_size (length p) h)
-
--- the header of six bytes or more, by its tests
-pub header-by : (p : List ℕ) {version minimum region : Bool} → header_size ≤ length p → eqb (byte_at p 0) 1 ≡ version →
-    allowed_minimum (byte_at p 1) ≡ minimum → leb (number32 p 2) most_region ≡ region →
-    header_of p ≡ only (version && (minimum && region)) (record { minimum = byte_at p 1; region = number32 p 2 })
-unfolding header_of good_header
-header-by p h v m r = rw (le-leb header_size (length p) h, v, m, r)
 
 -- what a run comes to that has read these bytes and no more
 unfoldable pub opened_by : List ℕ → List ℕ → Machine
 opened_by lent bytes =
     cond (ltb (length bytes) header_size)
-    (machine_at heading 1 (memory_for lent none) bytes [])
+    (machine_at heading 1 (memory_for lent None) bytes [])
     (fed lent (headed lent (header_of bytes)) (drop header_size bytes))
 
 head-on : (lent pending bytes : List ℕ) → length pending < header_size →
-    fed lent (machine_at heading 1 (memory_for lent none) pending []) bytes ≡ opened_by lent (pending ++ bytes)
+    fed lent (machine_at heading 1 (memory_for lent None) pending []) bytes ≡ opened_by lent (pending ++ bytes)
 unfolding fed fed_at header_fed opened_by
 head-on lent pending [] h = rw (append-nil pending, lt-ltb (length pending) header_size h)
 head-on lent pending (b ∷ bytes) h =
@@ -59,13 +51,13 @@ head-on lent pending (b ∷ bytes) h =
     more = pending ++ (b ∷ [])
 
     go : (t : Bool) → ltb (length more) header_size ≡ t →
-        (length more < header_size → fed lent (machine_at heading 1 (memory_for lent none) more []) bytes ≡ opened_by lent (more ++ bytes)) →
-        fed lent (cond t (machine_at heading 1 (memory_for lent none) more []) (headed lent (header_of more))) bytes ≡ opened_by lent (more ++ bytes)
+        (length more < header_size → fed lent (machine_at heading 1 (memory_for lent None) more []) bytes ≡ opened_by lent (more ++ bytes)) →
+        fed lent (cond t (machine_at heading 1 (memory_for lent None) more []) (headed lent (header_of more))) bytes ≡ opened_by lent (more ++ bytes)
     go true t again = again (ltb-true (length more) header_size t)
     go false t again =
         let enough : header_size ≤ length more = ltb-false (length more) header_size t in
         let exact : length more ≡ header_size = omega (arith, length-append pending (b ∷ [])) in
         rw (le-ltb (length (more ++ bytes)) header_size (omega (arith, length-append more bytes)), header-stays more bytes enough, drop_at more bytes header_size exact)
 
-pub opened : (lent bytes : List ℕ) → fed lent (machine_at heading 1 (memory_for lent none) [] []) bytes ≡ opened_by lent bytes
+pub opened : (lent bytes : List ℕ) → fed lent (machine_at heading 1 (memory_for lent None) [] []) bytes ≡ opened_by lent bytes
 opened lent bytes = head-on lent [] bytes (omega arith)

@@ -3,10 +3,8 @@ pub mod Settling
 pub mod Feeding
 pub mod Heading
 pub mod Whole
-pub mod Codes
 pub mod Decimal
 pub mod Putting
-pub mod Running
 pub mod Keeping
 pub mod Lines
 pub mod Stepping

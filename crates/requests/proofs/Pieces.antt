@@ -4,7 +4,7 @@ use native.Mathlib.Nat.{le_of_eq, le_refl}
 use native.Mathlib.Omega.{arith}
 use mathlib.Core.Bool.{Bool, true, false, ◌&&◌, cond}
 use mathlib.Core.List.{List, [], ◌∷◌, ◌++◌, append_assoc, append-nil}
-use mathlib.Core.Option.{Option, none, some}
+use Rattle.std.specs.Prelude.{Option, None, Some}
 use mathlib.Core.Path.{◌≡◌, refl, sym, ap, ◌∙◌}
 use Prim.{Unit, tt}
 use lib.Dec.{leb, ltb}
@@ -31,7 +31,7 @@ use Rattle.requests.proofs.Whole.{fed-whole}
 
 -- before the header nothing is written, and there is no arena yet
 abbrev Fresh : Stage → List ℕ → Memory → List ℕ → Type 0
-Fresh heading lent m text = (m ≡ memory_for lent none) × (text ≡ [])
+Fresh heading lent m text = (m ≡ memory_for lent None) × (text ≡ [])
 Fresh running lent m text = Unit
 Fresh stopped lent m text = Unit
 
@@ -56,7 +56,7 @@ opened-six : (lent bytes : List ℕ) → length bytes ≡ header_size → opened
 unfolding opened_by fed
 opened-six lent bytes e = rw (le-ltb (length bytes) header_size (omega (arith, e)), drop_of_length-le bytes {i = header_size} (le_of_eq e))
 
-opened-short : (lent bytes : List ℕ) → length bytes < header_size → opened_by lent bytes ≡ machine_at heading 1 (memory_for lent none) bytes []
+opened-short : (lent bytes : List ℕ) → length bytes < header_size → opened_by lent bytes ≡ machine_at heading 1 (memory_for lent None) bytes []
 unfolding opened_by
 opened-short lent bytes h = rw (lt-ltb (length bytes) header_size h)
 
@@ -73,15 +73,15 @@ header-fed lent n m window h =
 
 headed-fresh : (lent : List ℕ) (o : Option Header) → Fresh (headed lent o).stage lent (headed lent o).memory (headed lent o).text
 unfolding headed
-headed-fresh lent none = tt
-headed-fresh lent (some h) = tt
+headed-fresh lent None = tt
+headed-fresh lent (Some h) = tt
 
 headed-settled : (lent : List ℕ) (o : Option Header) (k : ℕ) → headed lent o ≡ onto [] (stepped_to (headed lent o) k)
 unfolding headed
-headed-settled lent none k = refl
-headed-settled lent (some h) k = refl
+headed-settled lent None k = refl
+headed-settled lent (Some h) k = refl
 
-heading-feeds : (lent : List ℕ) (n : ℕ) (m : Memory) (window : List ℕ) (room : ℕ) → m ≡ memory_for lent none → Feeds heading lent n m window [] (step_at heading lent n m window room)
+heading-feeds : (lent : List ℕ) (n : ℕ) (m : Memory) (window : List ℕ) (room : ℕ) → m ≡ memory_for lent None → Feeds heading lent n m window [] (step_at heading lent n m window room)
 unfolding step_at Feeds
 heading-feeds lent n m window room none_yet = go (leb header_size (length window)) refl (leb line_room room)
   where
@@ -163,7 +163,7 @@ rest-ends heading lent n m text (b ∷ rest) f r =
     rw (
       f.1,
       f.0,
-      header-starts lent n (memory_for lent none) (b ∷ rest) (omega arith),
+      header-starts lent n (memory_for lent None) (b ∷ rest) (omega arith),
       opened lent (b ∷ rest),
       opened-short lent (b ∷ rest) (ltb-true (length (b ∷ rest)) header_size r),
     )

@@ -31,9 +31,10 @@ pub put-length : {before : List ℕ} {at : ℕ} {text after : List ℕ} {next : 
     length after ≡ length before
 put-length {before} {at} {text} fits p = ap length p.bytes ∙ length-written before at text fits
 
-pub put_then : {before : List ℕ} {at : ℕ} {text middle : List ℕ} {next : ℕ} {more after : List ℕ} {end : ℕ} → at + length text ≤ length before →
+pub put_then : {before : List ℕ} {at : ℕ} {text middle : List ℕ} {next : ℕ} {more after : List ℕ} {end : ℕ} → next ≤ length before →
     Put before at text middle next → Put middle next more after end → Put before at (text ++ more) after end
-put_then {before} {at} {text} {middle} {next} {more} fits p q =
+put_then {before} {at} {text} {middle} {next} {more} within p q =
+    let fits : at + length text ≤ length before = omega (arith, p.moved) in
     record {
       bytes =
           q.bytes ∙ ap (λ (l : List ℕ). written l next more) p.bytes ∙ ap (λ (n : ℕ). written (written before at text) n more) p.moved

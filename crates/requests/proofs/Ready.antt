@@ -4,7 +4,7 @@ use Prim.Native.Nat.{ℕ, ◌+◌, ◌-◌, ◌≤◌}
 use native.Mathlib.Omega.{arith}
 use mathlib.Core.Bool.{Bool, true, false, ◌&&◌, cond}
 use mathlib.Core.List.{List, [], ◌∷◌, ◌++◌, append_assoc}
-use mathlib.Core.Option.{Option, none, some}
+use Rattle.std.specs.Prelude.{Option, None, Some}
 use mathlib.Core.Path.{◌≡◌, refl, sym, ap, ◌∙◌}
 use lib.Dec.{leb}
 use lib.ListN.{length, take, length-append}
@@ -36,7 +36,7 @@ record Able (m : Memory) (n bytes : ℕ) : Type 0 where
 AbleAfter : ℕ → Stepped → Type 0
 AbleAfter bytes s = Able s.after.memory s.after.number (bytes + s.taken)
 
-able-none : (lent : List ℕ) (bytes : ℕ) → Able (memory_for lent none) 1 bytes
+able-none : (lent : List ℕ) (bytes : ℕ) → Able (memory_for lent None) 1 bytes
 unfolding memory_for holding
 able-none lent bytes =
     record { sound = emptied-sound (fresh-settings 0 1 (omega arith) (unfold allowed_minimum one_bit ones in refl)) refl; region = omega arith; counted = omega arith }
@@ -46,8 +46,8 @@ able-later a l = record { sound = a.sound; region = a.region; counted = omega (a
 
 able-headed : (lent bytes : List ℕ) (k : ℕ) (o : Option Header) → header_of bytes ≡ o → AbleAfter k (stepped_to (headed lent o) header_size)
 unfolding AbleAfter headed memory_for
-able-headed lent bytes k none e = able-none lent (k + header_size)
-able-headed lent bytes k (some h) e =
+able-headed lent bytes k None e = able-none lent (k + header_size)
+able-headed lent bytes k (Some h) e =
     let r = header-region bytes e in record { sound = header-sound bytes e; region = omega (arith, r.0, r.1); counted = omega arith }
 
 able-heading : (lent : List ℕ) (n : ℕ) (m : Memory) (window : List ℕ) (room k : ℕ) → Able m n k → AbleAfter k (step_at heading lent n m window room)

@@ -4,26 +4,26 @@ use Prim.Native.Nat.{ℕ, ◌+◌, ◌≤◌, ◌<◌}
 use native.Mathlib.Omega.{arith}
 use mathlib.Core.Bool.{Bool, true, false, cond}
 use mathlib.Core.List.{List, [], ◌∷◌, ◌++◌}
-use mathlib.Core.Option.{Option, none, some}
+use Rattle.std.specs.Prelude.{Option, None, Some}
 use mathlib.Core.Path.{◌≡◌, refl, sym, ◌∙◌}
 use lib.Dec.{leb}
 use lib.ListN.{length, take, drop, length-append, take-append-drop}
 use lib.Seq.{take-append-le, length-take-le}
-use borrow.Author.Tests.{le-leb, lt-leb, leb-true, leb-false}
-use Rattle.requests.specs.Bytes.{byte_at, then_byte}
+use borrow.Author.Tests.{le-leb, leb-true, leb-false}
+use Rattle.requests.specs.Bytes.{then_byte}
 use Rattle.requests.specs.Request.{Request, request_of}
-use Rattle.requests.specs.Front.{nothing, part, whole, unfinished, record_front, front_of}
+use Rattle.requests.specs.Front.{part, whole, unfinished, record_front, front_of}
 
 -- a whole record settles the front
 record-settles : (n : ℕ) (o : Option Request) → unfinished (record_front n o) ≡ false
 unfolding record_front
-record-settles n none = refl
-record-settles n (some r) = refl
+record-settles n None = refl
+record-settles n (Some r) = refl
 
 record-size : (n : ℕ) (o : Option Request) {size : ℕ} {r : Request} → record_front n o ≡ whole size r → size ≡ 2 + n
 unfolding record_front
-record-size n none e = cc
-record-size n (some x) e = cc
+record-size n None e = cc
+record-size n (Some x) e = cc
 
 -- a record takes its length number and the bytes after it, which are there
 sized : (high low : ℕ) (rest : List ℕ) {size : ℕ} {r : Request} → front_of (high ∷ (low ∷ rest)) ≡ whole size r →
@@ -77,33 +77,6 @@ unfinished-short [] q u e = let s = whole-size q e in omega arith
 unfinished-short (high ∷ []) q u e = let s = whole-size (high ∷ q) e in omega arith
 unfinished-short (high ∷ (low ∷ rest)) q u e =
     let s = sized high low (rest ++ q) e in let short = rest-short high low rest u in omega arith
-
--- the front by tests on the bytes and their length
-pub nothing-front : (p : List ℕ) → length p ≡ 0 → front_of p ≡ nothing
-unfolding front_of
-nothing-front [] h = refl
-nothing-front (b ∷ p) h = absurd (omega arith)
-
-pub one-front : (p : List ℕ) → (length p ≡ 0 → ⊥) → length p < 2 → front_of p ≡ part
-unfolding front_of
-one-front [] n h = absurd (n refl)
-one-front (high ∷ []) n h = refl
-one-front (high ∷ (low ∷ rest)) n h = absurd (omega arith)
-
-pub short-front : (p : List ℕ) → 2 ≤ length p → length p < 2 + then_byte (byte_at p 0) (byte_at p 1) → front_of p ≡ part
-unfolding front_of
-short-front [] two h = absurd (omega arith)
-short-front (high ∷ []) two h = absurd (omega arith)
-short-front (high ∷ (low ∷ rest)) two h = rw (lt-leb (then_byte high low) (length rest) (omega arith))
-
-pub record-front : (p : List ℕ) (n : ℕ) → n ≡ then_byte (byte_at p 0) (byte_at p 1) → 2 ≤ length p → 2 + n ≤ length p →
-    record_front (length (take n (drop 2 p))) (request_of (take n (drop 2 p))) ≡ front_of p
-unfolding front_of
-record-front [] n e two h = absurd (omega arith)
-record-front (high ∷ []) n e two h = absurd (omega arith)
-record-front (high ∷ (low ∷ rest)) n e two h =
-    let held : n ≤ length rest = omega arith in
-    rw (length-take-le n rest held, ← e, le-leb n (length rest) held)
 
 -- a record's own bytes say its request
 pub front-own : (p : List ℕ) {size : ℕ} {r : Request} → front_of p ≡ whole size r → front_of (take size p) ≡ whole size r

@@ -1,11 +1,13 @@
 -- Running a window, a record at a time: what is run already stands ahead of what the rest comes to. Assumes nothing.
 use Prim.Native.Nat.{ℕ, zero, suc, ◌+◌, ◌-◌, ◌≤◌, ◌<◌}
+use native.Mathlib.Nat.{le_refl}
 use native.Mathlib.Omega.{arith}
 use mathlib.Core.Bool.{Bool, true, false, cond}
 use mathlib.Core.List.{List, [], ◌++◌, append_assoc, append-nil}
 use mathlib.Core.Path.{◌≡◌, refl, sym, ap, ◌∙◌}
 use lib.ListN.{length, take, drop, length-drop}
 use lib.Seq.{drop-drop}
+use Rattle.std.proofs.lemmas.Slice.{between_to_end}
 use lib.Dec.{leb}
 use borrow.Author.Tests.{le-leb, lt-leb}
 use Rattle.calls.specs.Bytes.{written}
@@ -56,6 +58,23 @@ pub goes_on : (turns room n : ℕ) (m : Memory) (window : List ℕ) {size : ℕ}
     ≡ ahead size (line_of n (run r m).reply) (passed_within turns (room - length (line_of n (run r m).reply)) (n + 1) (run r m).memory (drop size window))
 unfolding passed_within passed_by
 goes_on turns room n m window h e = rw (le-leb line_room room h, e)
+
+-- the bytes of a window that are not taken yet, as the code lends them
+pub not_taken : (window : List ℕ) (taken : ℕ) → take (length window - taken) (drop taken window) ≡ drop taken window
+not_taken window taken = between_to_end window taken (length window) (le_refl (length window))
+
+-- a whole record at their front lies in the window
+pub record Found (window : List ℕ) (taken size : ℕ) (r : Request) : Type 0 where
+  pub front : front_of (drop taken window) ≡ whole size r
+  pub some : 2 ≤ size
+  pub inside : taken + size ≤ length window
+
+pub found : (window : List ℕ) (taken : ℕ) {size : ℕ} {r : Request} → taken ≤ length window →
+    whole size r ≡ front_of (take (length window - taken) (drop taken window)) → Found window taken size r
+found window taken h e =
+    let front = sym (e ∙ ap front_of (not_taken window taken)) in
+    let w = whole-size (drop taken window) front in
+    record { front = front; some = w.0; inside = omega (arith, w.1, length-drop taken window) }
 
 -- what two records ahead come to together
 ahead-ahead : (taken : ℕ) (text : List ℕ) (size : ℕ) (line : List ℕ) (p : Passed) →

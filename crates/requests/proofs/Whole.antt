@@ -3,7 +3,7 @@ use Prim.Native.Nat.{ℕ}
 use native.Mathlib.Nat.{le_refl}
 use mathlib.Core.Bool.{Bool, true, false, cond}
 use mathlib.Core.List.{List, []}
-use mathlib.Core.Option.{Option, none, some}
+use Rattle.std.specs.Prelude.{Option, None, Some}
 use mathlib.Core.Path.{◌≡◌, refl}
 use lib.Dec.{ltb}
 use lib.ListN.{length, drop}
@@ -19,18 +19,18 @@ use Rattle.requests.proofs.Heading.{short-header, opened_by, opened}
 after-header : (lent : List ℕ) (h : Option Header) (bytes : List ℕ) →
     ended (fed lent (headed lent h) bytes) ≡ replayed_by h (memory_for lent h) bytes
 unfolding headed replayed_by parsed_of RunsOut ended ending_text
-after-header lent none bytes = rw (fed-stopped lent 1 (memory_for lent none) [] bad_header_text bytes)
-after-header lent (some h) bytes = runs-out lent (length bytes) 1 (memory_for lent (some h)) bytes [] (le_refl (length bytes))
+after-header lent None bytes = rw (fed-stopped lent 1 (memory_for lent None) [] bad_header_text bytes)
+after-header lent (Some h) bytes = runs-out lent (length bytes) 1 (memory_for lent (Some h)) bytes [] (le_refl (length bytes))
 
 pub fed-whole : (lent bytes : List ℕ) → ended (fed lent (start lent) bytes) ≡ replay_of lent bytes
 unfolding opened_by replay_of
 fed-whole lent bytes = rw (opened lent bytes) (go (ltb (length bytes) header_size) refl)
   where
-    short : header_of bytes ≡ none → ended (machine_at heading 1 (memory_for lent none) bytes []) ≡ replayed_by (header_of bytes) (memory_for lent (header_of bytes)) (drop header_size bytes)
+    short : header_of bytes ≡ None → ended (machine_at heading 1 (memory_for lent None) bytes []) ≡ replayed_by (header_of bytes) (memory_for lent (header_of bytes)) (drop header_size bytes)
     short e = rw e (unfold ended ending_text replayed_by in refl)
 
     go : (t : Bool) → ltb (length bytes) header_size ≡ t →
-        ended (cond t (machine_at heading 1 (memory_for lent none) bytes []) (fed lent (headed lent (header_of bytes)) (drop header_size bytes)))
+        ended (cond t (machine_at heading 1 (memory_for lent None) bytes []) (fed lent (headed lent (header_of bytes)) (drop header_size bytes)))
         ≡ replayed_by (header_of bytes) (memory_for lent (header_of bytes)) (drop header_size bytes)
     go true t = short (short-header bytes (ltb-true (length bytes) header_size t))
     go false t = after-header lent (header_of bytes) (drop header_size bytes)

@@ -1,6 +1,5 @@
 -- Document 01, "The replay program": what stands at the front of the bytes.
-use Rattle.std.specs.Prelude.{ℕ, ◌+◌, Bool, true, false, cond, List, [], ◌∷◌, length, take, leb}
-use Rattle.std.proofs.Math.Option.{Option, none, some}
+use Rattle.std.specs.Prelude.{ℕ, ◌+◌, Bool, true, false, cond, List, [], ◌∷◌, length, take, leb, Option, None, Some}
 use Rattle.requests.specs.Bytes.{then_byte}
 use Rattle.requests.specs.Request.{Request, request_of}
 
@@ -20,8 +19,8 @@ unfinished (whole size r) = false
 
 -- a whole record, of this many bytes after its length number
 unfoldable pub record_front : ℕ → Option Request → Front
-record_front size none = bad
-record_front size (some r) = whole (2 + size) r
+record_front size None = bad
+record_front size (Some r) = whole (2 + size) r
 
 -- "2-byte length of what follows it"; a record is looked at only once it is whole, and then at its own bytes alone
 unfoldable pub front_of : List ℕ → Front

@@ -1,6 +1,5 @@
 -- Document 01, "The replay program": the header, and the memory that a run starts with.
-use Rattle.std.specs.Prelude.{ℕ, Bool, ◌&&◌, List, [], length, take, leb, eqb}
-use Rattle.std.proofs.Math.Option.{Option, none, some}
+use Rattle.std.specs.Prelude.{ℕ, Bool, ◌&&◌, List, [], length, take, leb, eqb, Option, None, Some}
 use Rattle.rounding.specs.First.{only}
 use Rattle.arena.specs.declared.Arena.{Arena}
 use Rattle.arena.specs.Record.{holding}
@@ -36,5 +35,5 @@ pub record Memory : Type 0 where
 
 -- "The arena starts with capacity 0; after a bad header the record is a refused creation's". The region is the first of the lent bytes
 unfoldable pub memory_for : List ℕ → Option Header → Memory
-memory_for lent none = record { arena = holding (fresh_head 0 1) []; bytes = [] }
-memory_for lent (some h) = record { arena = (created_of h.region h.minimum 0).arena; bytes = take h.region lent }
+memory_for lent None = record { arena = holding (fresh_head 0 1) []; bytes = [] }
+memory_for lent (Some h) = record { arena = (created_of h.region h.minimum 0).arena; bytes = take h.region lent }

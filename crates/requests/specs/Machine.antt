@@ -1,6 +1,5 @@
 -- The replay program as a machine that is fed a byte at a time: what running a file in pieces comes to, however it is cut.
-use Rattle.std.specs.Prelude.{ℕ, ◌+◌, cond, List, [], ◌∷◌, ◌++◌, length, ltb}
-use Rattle.std.proofs.Math.Option.{Option, none, some}
+use Rattle.std.specs.Prelude.{ℕ, ◌+◌, cond, List, [], ◌∷◌, ◌++◌, length, ltb, Option, None, Some}
 use Rattle.requests.specs.Front.{Front, nothing, part, bad, whole, front_of}
 use Rattle.requests.specs.Header.{Header, Memory, header_size, header_of, memory_for}
 use Rattle.requests.specs.Parsed.{Ending, complete, cut_off, bad_record}
@@ -28,16 +27,16 @@ machine_at stage number memory pending text =
 
 -- before the first byte
 abbrev pub start : List ℕ → Machine
-start lent = machine_at heading 1 (memory_for lent none) [] []
+start lent = machine_at heading 1 (memory_for lent None) [] []
 
 -- a whole header opens the run or stops it
 unfoldable pub headed : List ℕ → Option Header → Machine
-headed lent none = machine_at stopped 1 (memory_for lent none) [] bad_header_text
-headed lent (some h) = machine_at running 1 (memory_for lent (some h)) [] []
+headed lent None = machine_at stopped 1 (memory_for lent None) [] bad_header_text
+headed lent (Some h) = machine_at running 1 (memory_for lent (Some h)) [] []
 
 unfoldable pub header_fed : List ℕ → List ℕ → Machine
 header_fed lent pending =
-    cond (ltb (length pending) header_size) (machine_at heading 1 (memory_for lent none) pending []) (headed lent (header_of pending))
+    cond (ltb (length pending) header_size) (machine_at heading 1 (memory_for lent None) pending []) (headed lent (header_of pending))
 
 -- a whole record is run and its line is added; a bad one stops the run
 unfoldable pub record_fed : Front → ℕ → Memory → List ℕ → List ℕ → Machine

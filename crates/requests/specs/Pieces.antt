@@ -1,7 +1,6 @@
 -- A file fed window by window, however it is cut and whatever room the output has: the statement that every way of going through it comes to the
 -- definition. Bytes that were not taken may stand at the front of the next window; nothing here asks for it, so that a way of going on is any row of windows.
-use Rattle.std.specs.Prelude.{ℕ, ◌+◌, ◌≤◌, ◌<◌, Bool, true, List, [], ◌∷◌, ◌++◌, ◌≡◌, length, take, ltb}
-use Rattle.std.proofs.Math.Option.{none}
+use Rattle.std.specs.Prelude.{ℕ, ◌+◌, ◌≤◌, ◌<◌, Bool, true, List, [], ◌∷◌, ◌++◌, ◌≡◌, length, take, ltb, None}
 use Rattle.requests.specs.Front.{unfinished, front_of}
 use Rattle.requests.specs.Header.{Memory, header_size, most_region, memory_for}
 use Rattle.requests.specs.Machine.{Stage, heading, running, stopped, ending_text}
@@ -23,7 +22,7 @@ pub record Gone : Type 0 where
   pub memory : Memory
 
 abbrev pub begun : List ℕ → Gone
-begun lent = record { taken = []; text = []; stage = heading; number = 1; memory = memory_for lent none }
+begun lent = record { taken = []; text = []; stage = heading; number = 1; memory = memory_for lent None }
 
 abbrev pub after : Gone → List ℕ → Stepped → Gone
 after g window s =

@@ -1,6 +1,5 @@
 -- Document 01, "The replay program": what a file gives, from its bytes and the bytes that are lent for its region.
-use Rattle.std.specs.Prelude.{ℕ, List, ◌++◌, drop}
-use Rattle.std.proofs.Math.Option.{Option, none, some}
+use Rattle.std.specs.Prelude.{ℕ, List, ◌++◌, drop, Option, None, Some}
 use Rattle.requests.specs.Header.{Header, Memory, header_size, header_of, memory_for}
 use Rattle.requests.specs.Parsed.{Parsed, Ending, parsed_of}
 use Rattle.requests.specs.Run.{Answers, answers}
@@ -25,8 +24,8 @@ replayed_from n m p = closed_answers n (answers p.requests m) p.ending
 
 -- "A wrong or short header gives only `0 bad header`" and the last line
 unfoldable pub replayed_by : Option Header → Memory → List ℕ → Replayed
-replayed_by none m bytes = closed bad_header_text m
-replayed_by (some h) m bytes = replayed_from 1 m (parsed_of bytes)
+replayed_by None m bytes = closed bad_header_text m
+replayed_by (Some h) m bytes = replayed_from 1 m (parsed_of bytes)
 
 unfoldable pub replay_of : List ℕ → List ℕ → Replayed
 replay_of lent bytes = replayed_by (header_of bytes) (memory_for lent (header_of bytes)) (drop header_size bytes)

@@ -1,6 +1,5 @@
 -- Document 01, "The replay program": the ten codes, and the request that a record's own bytes say.
-use Rattle.std.specs.Prelude.{ℕ, ◌+◌, ◌*◌, ◌&&◌, cond, List, [], ◌∷◌, length, eqb}
-use Rattle.std.proofs.Math.Option.{Option, none, some}
+use Rattle.std.specs.Prelude.{ℕ, ◌+◌, ◌*◌, ◌&&◌, cond, List, [], ◌∷◌, length, eqb, Option, None, Some}
 use Rattle.requests.specs.Bytes.{byte_at, number32}
 
 pub data Request : Type 0 where
@@ -49,9 +48,9 @@ field_of body k = number32 body (1 + 4 * k)
 
 -- the request of the form that has this code and suits this length
 unfoldable pub request_by : List Form → ℕ → ℕ → (ℕ → ℕ) → Option Request
-request_by [] code size field = none
+request_by [] code size field = None
 request_by (f ∷ fs) code size field =
-    cond (eqb code f.code && eqb size (1 + 4 * f.fields)) (some (f.says field)) (request_by fs code size field)
+    cond (eqb code f.code && eqb size (1 + 4 * f.fields)) (Some (f.says field)) (request_by fs code size field)
 
 -- "Any other code, no code, or a length that doesn't suit the code, is a bad record": no request
 unfoldable pub request_of : List ℕ → Option Request

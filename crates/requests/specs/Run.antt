@@ -1,14 +1,9 @@
 -- Document 01, "The replay program": a request is run by the call of its name.
-use Rattle.std.specs.Prelude.{List, [], ◌∷◌, ℕ, length}
+use Rattle.std.specs.Prelude.{List, [], ◌∷◌, ℕ, length, Err, Ok, ⊤}
 use Rattle.arena.specs.declared.Arena.{Arena}
-use Rattle.arena.specs.declared.Answer.{Answer}
-use Rattle.arena.specs.declared.Answer.TheVariants.{Done, Refused}
 use Rattle.arena.specs.declared.Outcome.{Outcome}
 use Rattle.arena.specs.declared.Refusal.{Refusal}
 use Rattle.arena.specs.Creation.{reset_of, set_limit_of, no_limit_of}
-use Rattle.calls.specs.declared.Given.{Given}
-use Rattle.calls.specs.declared.Given.TheVariants.{At, Refused as NotGiven}
-use Rattle.calls.specs.declared.Allocation.{Allocation}
 use Rattle.calls.specs.Allocate.{allocate_of}
 use Rattle.calls.specs.Free.{free_of}
 use Rattle.calls.specs.Grow.{grow_of, grow_bytes}
@@ -17,6 +12,7 @@ use Rattle.calls.specs.Token.{token_of, with_token_of, cancel_of}
 use Rattle.calls.specs.Resize.{resize_of, resize_bytes}
 use Rattle.requests.specs.Request.{Request, allocate, free, grow, shrink, reset, set_limit, no_limit, allocate_with_token, cancel, resize}
 use Rattle.requests.specs.Header.{Memory}
+use Rattle.arena.specs.Refusals.{Allocation, Answer, Given}
 
 -- what a line says: an offset, that it is done, or the refusal
 pub data Reply : Type 0 where
@@ -25,12 +21,12 @@ pub data Reply : Type 0 where
   refused : Refusal → Reply
 
 unfoldable pub given_reply : Given → Reply
-given_reply (At offset) = at_offset offset
-given_reply (NotGiven r) = refused r
+given_reply (Ok offset) = at_offset offset
+given_reply (Err r) = refused r
 
 unfoldable pub answer_reply : Answer → Reply
-answer_reply Done = done
-answer_reply (Refused r) = refused r
+answer_reply (Ok u) = done
+answer_reply (Err r) = refused r
 
 -- the reply to a request, and the memory after it
 pub record Ran : Type 0 where
@@ -44,7 +40,7 @@ ran_to reply arena bytes = record { reply = reply; memory = record { arena = are
 abbrev pub gave : Allocation → List ℕ → Ran
 gave r bytes = ran_to (given_reply r.answer) r.arena bytes
 
-abbrev pub did : Outcome → List ℕ → Ran
+abbrev pub did : Outcome ⊤ → List ℕ → Ran
 did r bytes = ran_to (answer_reply r.answer) r.arena bytes
 
 unfoldable pub run_in : Request → Arena → List ℕ → Ran

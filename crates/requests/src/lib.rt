@@ -2,6 +2,7 @@
 #![tactic(auto)]
 
 pub mod header;
+mod kind;
 pub mod machine;
 pub mod print;
 pub mod read;
@@ -13,41 +14,71 @@ use arena::Refusal;
 // A request, with its record's fields in their order.
 #[derive(Clone, Copy)]
 pub enum Request {
-    // Size, align.
-    Allocate(usize, usize),
-    // Offset, size, align.
-    Free(usize, usize, usize),
-    // Offset, old size, old align, new size, new align.
-    Grow(usize, usize, usize, usize, usize),
-    Shrink(usize, usize, usize, usize, usize),
-
+    Allocate {
+        size: usize,
+        align: usize,
+    },
+    Free {
+        offset: usize,
+        size: usize,
+        align: usize,
+    },
+    Grow {
+        offset: usize,
+        old_size: usize,
+        old_align: usize,
+        new_size: usize,
+        new_align: usize,
+    },
+    Shrink {
+        offset: usize,
+        old_size: usize,
+        old_align: usize,
+        new_size: usize,
+        new_align: usize,
+    },
     Reset,
-    SetLimit(usize),
+    SetLimit {
+        limit: usize,
+    },
     NoLimit,
-    // Size, align.
-    AllocateWithToken(usize, usize),
-    // Block offset, count, pointer.
-    Cancel(usize, usize, usize),
-    // Offset, old size, align, new size.
-    Resize(usize, usize, usize, usize),
+    AllocateWithToken {
+        size: usize,
+        align: usize,
+    },
+    Cancel {
+        offset: usize,
+        count: usize,
+        pointer: usize,
+    },
+    Resize {
+        offset: usize,
+        old_size: usize,
+        align: usize,
+        new_size: usize,
+    },
 }
 
-// What stands at the front of the bytes: none, a part of a record, a bad one, or the bytes that a record takes and its request.
+// A whole record: the bytes that it takes, and its request.
 #[derive(Clone, Copy)]
-pub enum Front {
-    Nothing,
-    Part,
-    Bad,
-    Whole(usize, Request),
+pub struct Record {
+    pub size: usize,
+    pub request: Request,
 }
 
-// What a line says of a request.
+// How a run ends for want of a record: the bytes end after one, or inside one, or a whole one says no request.
 #[derive(Clone, Copy)]
-pub enum Reply {
-    At(usize),
-    Done,
-    Refused(Refusal),
+pub enum Ending {
+    Complete,
+    CutOff,
+    BadRecord,
 }
+
+// What stands at the front of the bytes.
+pub type Front = Result<Record, Ending>;
+
+// What a line says of a request: an offset, that it is done, or the refusal.
+pub type Reply = Result<Option<usize>, Refusal>;
 
 // Whether the header is still to come, requests are read, or a bad header or record has stopped the run.
 #[derive(Clone, Copy)]

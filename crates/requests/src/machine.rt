@@ -5,15 +5,16 @@ ghost use Rattle.arena.specs.Record.{holding};
 ghost use Rattle.arena.specs.Creation.{fresh_head};
 ghost use Rattle.arena.specs.Sound.{sound_of};
 ghost use Rattle.requests.specs.Machine.{ending_text, heading, running, stopped};
-ghost use Rattle.requests.specs.Window.{passed_of};
-ghost use Rattle.requests.specs.Inner.{Put, front_said};
+ghost use Rattle.requests.specs.Front.{front_of};
+ghost use Rattle.requests.specs.Window.{line_room, passed_of};
+ghost use Rattle.requests.specs.Inner.{Put};
 ghost use Rattle.requests.specs.Feed.{is_bad, step_at, step_of, ready, final_text, end_room, stage_said, memory_in, start_state, ThroughLent, Came};
 
 use crate::header::{HEADER, Header, MOST_REGION, read_header};
 use crate::print::{put_held, put_numbered, put_text};
 use crate::read::read_front;
 use crate::window::{LINE, Progress, run_window};
-use crate::{Front, Stage};
+use crate::{Ending, Stage};
 use arena::creation::emptied;
 use arena::ladder::held_bytes;
 use arena::sound::is_sound;
@@ -52,29 +53,23 @@ fn no_arena() -> Arena
 pub fn start() -> State
     ensures { result ≡ start_state }
 {
-    let arena = no_arena();
     State {
         stage: Stage::Heading,
         number: 1,
-        arena,
+        arena: no_arena(),
     }
 }
 
 // Whether feeding takes what it can: bytes for the longest region, 65,536, are lent, the record is sound and its region among them, and the number can count
 // every request of the window.
-pub fn is_ready(arena: Arena, number: usize, lent: &[u8], window: &[u8]) -> bool
-    ensures { result ≡ ready arena number (length lent.now) (length window.now) }
+#[tactic(auto, unfolding(crate::specs::Feed::ready))]
+pub fn is_ready(state: &State, lent: &[u8], window: &[u8]) -> bool
+    ensures { result ≡ ready state.now.arena state.now.number (length lent.now) (length window.now) }
 {
-    if lent.len() < MOST_REGION {
-        return false;
-    }
-    if lent.len() < arena.head.region {
-        return false;
-    }
-    if u64::MAX as usize - window.len() < number {
-        return false;
-    }
-    is_sound(arena.head, &arena.starts, &arena.sizes, &arena.pointers)
+    MOST_REGION <= lent.len()
+        && state.arena.head.region <= lent.len()
+        && state.number <= usize::MAX - window.len()
+        && is_sound(&state.arena.lent())
 }
 
 // Nothing is taken.
@@ -99,26 +94,24 @@ fn open(state: State, window: &[u8], out: &mut [u8]) -> Fed
     if out.len() < LINE {
         return stay(state);
     }
-    let Header::Good(minimum, region) = read_header(window) else {
+    let Some(Header { minimum, region }) = read_header(window) else {
         let written = put_text(out, 0, b"0 bad header\n");
-        let none = no_arena();
         return Fed {
             state: State {
                 stage: Stage::Stopped,
                 number: 1,
-                arena: none,
+                arena: no_arena(),
             },
             taken: HEADER,
             written,
         };
     };
     let made = Arena::with_min_align_and_capacity(region, minimum, 0);
-    let arena = made.arena;
     Fed {
         state: State {
             stage: Stage::Running,
             number: 1,
-            arena,
+            arena: made.arena,
         },
         taken: HEADER,
         written: 0,
@@ -135,15 +128,12 @@ fn run_lent(arena: Arena, lent: &mut [u8], number: usize, window: &[u8], out: &m
     run_window(arena, &mut lent[..region], number, window, out)
 }
 
-fn is_bad(front: Front) -> bool
-    ensures { result ≡ is_bad (front_said front) }
+// Whether a bad record comes next, and its line has room.
+#[tactic(auto, unfolding(crate::specs::Inner::front_said))]
+fn is_bad_next(room: usize, rest: &[u8]) -> bool
+    ensures { result ≡ leb line_room room && is_bad (front_of rest.now) }
 {
-    match front {
-        Front::Nothing => false,
-        Front::Part => false,
-        Front::Bad => true,
-        Front::Whole(_, _) => false,
-    }
+    LINE <= room && matches!(read_front(rest), Err(Ending::BadRecord))
 }
 
 // The whole records of the window are run. A bad one after them stops the run.
@@ -151,33 +141,32 @@ fn run_on(state: State, lent: &mut [u8], window: &[u8], out: &mut [u8]) -> Fed
     requires { (sound_of state.arena ≡ true) × (state.arena.head.region ≤ length lent.old) × (state.number + length window.now < 2 ^ 64) }
     ensures { Came (step_at running lent.old state.number (memory_in state.arena lent.old) window.now (length out.old)) lent.old out.old result lent.new out.new }
 {
-    let p = run_lent(state.arena, lent, state.number, window, out);
-    let held = p.arena;
-    let next = p.number;
-    let taken = p.taken;
-    if LINE <= out.len() - p.written {
-        let front = read_front(&window[taken..]);
-        if is_bad(front) {
-            let written = put_numbered(out, p.written, next, b" bad record\n");
-            return Fed {
-                state: State {
-                    stage: Stage::Stopped,
-                    number: next,
-                    arena: held,
-                },
-                taken: window.len(),
-                written,
-            };
-        }
+    let Progress {
+        arena,
+        number,
+        taken,
+        written,
+    } = run_lent(state.arena, lent, state.number, window, out);
+    if is_bad_next(out.len() - written, &window[taken..]) {
+        let end = put_numbered(out, written, number, b" bad record\n");
+        return Fed {
+            state: State {
+                stage: Stage::Stopped,
+                number,
+                arena,
+            },
+            taken: window.len(),
+            written: end,
+        };
     }
     Fed {
         state: State {
             stage: Stage::Running,
-            number: next,
-            arena: held,
+            number,
+            arena,
         },
         taken,
-        written: p.written,
+        written,
     }
 }
 
@@ -194,15 +183,15 @@ fn swallow(state: State, window: &[u8]) -> Fed
 
 // Takes what it can of the window: nothing while its front is not a whole header or record, or fewer than 64 bytes of the output are free. What is
 // not ready stays as it is.
+#[tactic(auto, unfolding(crate::specs::Feed::stage_said, crate::specs::Feed::ready))]
 pub fn feed(state: State, lent: &mut [u8], window: &[u8], out: &mut [u8]) -> Fed
     ensures came { Came (step_of (ready state.arena state.number (length lent.old) (length window.now)) (stage_said state.stage) lent.old state.number (memory_in state.arena lent.old) window.now (length out.old)) lent.old out.old result lent.new out.new }
     ensures taken_in_bounds { (result.taken ≤ length window.now) × (result.written ≤ length out.new) }
 {
-    if !is_ready(state.arena, state.number, lent, window) {
+    if !is_ready(&state, lent, window) {
         return stay(state);
     }
-    let stage = state.stage;
-    match stage {
+    match state.stage {
         Stage::Heading => open(state, window, out),
         Stage::Running => run_on(state, lent, window, out),
         Stage::Stopped => swallow(state, window),
@@ -210,19 +199,20 @@ pub fn feed(state: State, lent: &mut [u8], window: &[u8], out: &mut [u8]) -> Fed
 }
 
 // What the end of the input adds in a run, by what stands at the front of the bytes that were never taken.
+#[tactic(auto, unfolding(crate::specs::Inner::front_said, crate::specs::Text::ending_line, crate::specs::Machine::ending_at, crate::specs::Machine::ending_text, calls::specs::Bytes::written))]
 fn put_unfinished(out: &mut [u8], number: usize, rest: &[u8]) -> usize
     requires { end_room ≤ length out.old }
     ensures { Put out.old 0 (ending_text running number rest.now) out.new result }
 {
-    let front = read_front(rest);
-    match front {
-        Front::Nothing => 0,
-        Front::Part => put_numbered(out, 0, number, b" cut off\n"),
-        Front::Bad => put_numbered(out, 0, number, b" bad record\n"),
-        Front::Whole(_, _) => 0,
+    match read_front(rest) {
+        Ok(_) => 0,
+        Err(Ending::Complete) => 0,
+        Err(Ending::CutOff) => put_numbered(out, 0, number, b" cut off\n"),
+        Err(Ending::BadRecord) => put_numbered(out, 0, number, b" bad record\n"),
     }
 }
 
+#[tactic(auto, unfolding(crate::specs::Feed::stage_said, crate::specs::Machine::ending_text, calls::specs::Bytes::written))]
 fn put_ending(out: &mut [u8], stage: Stage, number: usize, rest: &[u8]) -> usize
     requires { end_room ≤ length out.old }
     ensures { Put out.old 0 (ending_text (stage_said stage) number rest.now) out.new result }
@@ -246,12 +236,10 @@ pub fn finish(state: State, rest: &[u8], out: &mut [u8]) -> usize
     if out.len() < END {
         return 0;
     }
-    let a = state.arena;
-    if !is_sound(a.head, &a.starts, &a.sizes, &a.pointers) {
+    let Some(sound) = state.arena.sound() else {
         return 0;
-    }
-    let stage = state.stage;
-    let ended = put_ending(out, stage, state.number, rest);
-    let held = held_bytes(a.head, &a.starts, &a.sizes, &a.pointers);
-    put_held(out, ended, held, a.head.count)
+    };
+    let ended = put_ending(out, state.stage, state.number, rest);
+    let held = held_bytes(&sound.lent);
+    put_held(out, ended, held, state.arena.head.count)
 }

@@ -1,11 +1,11 @@
 // Writing lines. Each writer puts a text into the output at a place and answers the place past it.
+// No `Display`: that says what is written only where the write succeeds, and a line is always written.
+// No struct of the output and the place: each of its methods would have to say two things more, that it still holds these bytes and as many.
 ghost use Rattle.std.specs.Prelude.{◌≡◌, ◌+◌, ◌≤◌, length, ◌++◌};
-ghost use Rattle.arena.specs.Refusals.{number_of};
 ghost use Rattle.requests.specs.Text.{decimal, newline, line_of, held_text, in_text, chunks_text};
 ghost use Rattle.requests.specs.Inner.{Put, reply_said};
 
 use crate::Reply;
-use arena::Refusal;
 use calls::bytes::copy_from;
 
 pub fn put_text(out: &mut [u8], at: usize, text: &[u8]) -> usize
@@ -18,27 +18,13 @@ pub fn put_text(out: &mut [u8], at: usize, text: &[u8]) -> usize
 
 pub fn put_number(out: &mut [u8], at: usize, n: usize) -> usize
     requires { at + 20 ≤ length out.old }
-    ensures { Put out.old at (decimal n) out.new result }
+    ensures put { Put out.old at (decimal n) out.new result }
+    ensures bound { result ≤ at + 20 }
 {
+    // A buffer and its length, as there is no heap.
     let mut digits = [0u8; 20];
     let k = io::decimal(n as u64, &mut digits);
     put_text(out, at, &digits[..k])
-}
-
-// Document 01's number of a refusal.
-fn number_of(refusal: Refusal) -> usize
-    ensures { (result ≡ number_of refusal) × (result ≤ 8) }
-{
-    match refusal {
-        Refusal::State => 1,
-        Refusal::Region => 2,
-        Refusal::Size => 3,
-        Refusal::Align => 4,
-        Refusal::Block => 5,
-        Refusal::Direction => 6,
-        Refusal::Token => 7,
-        Refusal::Room => 8,
-    }
 }
 
 // A text, a number and the line's end.
@@ -58,9 +44,9 @@ pub fn put_line(out: &mut [u8], at: usize, number: usize, reply: Reply) -> usize
 {
     let next = put_number(out, at, number);
     match reply {
-        Reply::At(offset) => put_ended(out, next, b" at ", offset),
-        Reply::Done => put_text(out, next, b" done\n"),
-        Reply::Refused(refusal) => put_ended(out, next, b" refused ", number_of(refusal)),
+        Ok(Some(offset)) => put_ended(out, next, b" at ", offset),
+        Ok(None) => put_text(out, next, b" done\n"),
+        Err(refusal) => put_ended(out, next, b" refused ", refusal.number()),
     }
 }
 

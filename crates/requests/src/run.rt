@@ -1,17 +1,15 @@
-// Running one request on a record that is known to be sound and is lent in parts: nothing tests it again, and its holder makes the change.
-ghost use Rattle.std.specs.Prelude.{◌≡◌, true, length};
-ghost use Rattle.arena.specs.Record.{record_of};
-ghost use Rattle.arena.specs.Sound.{sound_of};
-ghost use Rattle.arena.specs.declared.Answer.TheVariants.{Done};
-ghost use Rattle.requests.specs.Run.{given_reply, answer_reply, run_in};
+// Running one request on a record that is known to be sound: nothing tests it again, and its holder makes the change.
+ghost use Rattle.std.specs.Prelude.{◌≡◌, length};
+ghost use Rattle.arena.specs.Inner.{lent_of};
+ghost use Rattle.requests.specs.Run.{done, given_reply, answer_reply, run_in};
 ghost use Rattle.requests.specs.Inner.{reply_said, request_said, ran_said};
 
 use crate::{Reply, Request};
 use arena::change::Change;
-use arena::{Answer, Head};
+use arena::sound::Sound;
 use calls::allocate::allocate_placed;
 use calls::free::free_ended;
-use calls::{Ended, Given, Placed, Token, TokenPlaced};
+use calls::{Answered, Token, TokenPlaced};
 use reshape::grow::grow_placed;
 use reshape::resize::resize_placed;
 use reshape::shrink::shrink_placed;
@@ -24,98 +22,102 @@ pub struct Ran {
     pub change: Change,
 }
 
-fn gave(placed: Placed) -> Ran
-    ensures { (reply_said result.reply ≡ given_reply placed.answer) × (result.change ≡ placed.change) }
-{
-    let answer = placed.answer;
-    let change = placed.change;
-    match answer {
-        Given::At(offset) => Ran {
-            reply: Reply::At(offset),
-            change,
-        },
-        Given::Refused(refusal) => Ran {
-            reply: Reply::Refused(refusal),
-            change,
-        },
+impl From<Answered<usize>> for Ran {
+    ghost from_gives = { λ placed r. (reply_said r.reply ≡ given_reply placed.answer) × (r.change ≡ placed.change) };
+
+    #[tactic(auto, unfolding(crate::specs::Inner::reply_said, crate::specs::Run::given_reply))]
+    fn from(placed: Answered<usize>) -> Ran {
+        Ran {
+            reply: placed.answer.map(Some),
+            change: placed.change,
+        }
     }
 }
 
-fn gave_with_token(placed: TokenPlaced) -> Ran
-    ensures { (reply_said result.reply ≡ given_reply placed.answer) × (result.change ≡ placed.change) }
-{
-    let answer = placed.answer;
-    let change = placed.change;
-    gave(Placed { answer, change })
+impl From<TokenPlaced> for Ran {
+    ghost from_gives = { λ placed r. (reply_said r.reply ≡ given_reply placed.answer) × (r.change ≡ placed.change) };
+
+    fn from(placed: TokenPlaced) -> Ran {
+        Ran::from(Answered {
+            answer: placed.answer,
+            change: placed.change,
+        })
+    }
 }
 
-fn did(ended: Ended) -> Ran
-    ensures { (reply_said result.reply ≡ answer_reply ended.answer) × (result.change ≡ ended.change) }
-{
-    let answer = ended.answer;
-    let change = ended.change;
-    match answer {
-        Answer::Done => Ran {
-            reply: Reply::Done,
-            change,
-        },
-        Answer::Refused(refusal) => Ran {
-            reply: Reply::Refused(refusal),
-            change,
-        },
+impl From<Answered<()>> for Ran {
+    ghost from_gives = { λ ended r. (reply_said r.reply ≡ answer_reply ended.answer) × (r.change ≡ ended.change) };
+
+    #[tactic(auto, unfolding(crate::specs::Inner::reply_said, crate::specs::Run::answer_reply))]
+    fn from(ended: Answered<()>) -> Ran {
+        Ran {
+            reply: ended.answer.map(|()| None),
+            change: ended.change,
+        }
     }
 }
 
 // Of a sound record a reset and a limit are never refused.
-fn always(change: Change) -> Ended
-    ensures { result ≡ record { answer = Done; change = change } }
+#[tactic(auto, unfolding(crate::specs::Inner::reply_said))]
+fn always(change: Change) -> Ran
+    ensures { (reply_said result.reply ≡ done) × (result.change ≡ change) }
 {
-    Ended {
-        answer: Answer::Done,
+    Ran {
+        reply: Ok(None),
         change,
     }
 }
 
-pub fn run<'a>(
-    h: Head,
-    starts: &'a [usize; 32],
-    sizes: &'a [usize; 32],
-    pointers: &'a [usize; 32],
-    region: &mut [u8],
-    request: Request,
-) -> Ran
-    requires { (sound_of (record_of h starts.now sizes.now pointers.now) ≡ true) × (length region.old ≡ h.region) }
-    ensures { ran_said (record_of h starts.now sizes.now pointers.now) result region.new ≡ run_in (request_said request) (record_of h starts.now sizes.now pointers.now) region.old }
+#[tactic(auto, unfolding(crate::specs::Run::run_in, crate::specs::Inner::request_said, crate::specs::Inner::ran_said, crate::specs::Run::answer_reply, arena::specs::Inner::changed_by, arena::specs::Inner::limited_by, arena::specs::Creation::reset_of, arena::specs::Creation::set_limit_of, arena::specs::Creation::no_limit_of, arena::specs::Refusals::answered, arena::specs::Refusals::refused_by))]
+pub fn run(a: &Sound, region: &mut [u8], request: Request) -> Ran
+    requires { length region.old ≡ a.now.lent.head.region }
+    ensures { ran_said (lent_of a.now.lent) result region.new ≡ run_in (request_said request) (lent_of a.now.lent) region.old }
 {
     match request {
-        Request::Allocate(size, align) => {
-            gave(allocate_placed(h, starts, sizes, pointers, size, align))
+        Request::Allocate { size, align } => {
+            Ran::from(allocate_placed(a, size, align))
         }
-        Request::Free(offset, size, align) => {
-            did(free_ended(h, starts, sizes, pointers, offset, size, align))
-        }
-        Request::Grow(offset, old, old_align, new, new_align) => gave(grow_placed(
-            h, starts, sizes, pointers, region, offset, old, old_align, new, new_align,
-        )),
-        Request::Shrink(offset, old, old_align, new, new_align) => gave(shrink_placed(
-            h, starts, sizes, pointers, region, offset, old, old_align, new, new_align,
-        )),
-        Request::Reset => did(always(Change::Kept)),
-        Request::SetLimit(limit) => did(always(Change::Limited(1, limit))),
-        Request::NoLimit => did(always(Change::Limited(0, 0))),
-        Request::AllocateWithToken(size, align) => {
-            gave_with_token(allocate_with_token_placed(h, starts, sizes, pointers, size, align))
-        }
-        Request::Cancel(offset, count, pointer) => did(cancel_ended(
-            h,
-            starts,
-            sizes,
-            pointers,
+        Request::Free {
             offset,
-            Token { count, pointer },
+            size,
+            align,
+        } => Ran::from(free_ended(a, offset, size, align)),
+        Request::Grow {
+            offset,
+            old_size,
+            old_align,
+            new_size,
+            new_align,
+        } => Ran::from(grow_placed(
+            a, region, offset, old_size, old_align, new_size, new_align,
         )),
-        Request::Resize(offset, old, align, new) => gave(resize_placed(
-            h, starts, sizes, pointers, region, offset, old, align, new,
+        Request::Shrink {
+            offset,
+            old_size,
+            old_align,
+            new_size,
+            new_align,
+        } => Ran::from(shrink_placed(
+            a, region, offset, old_size, old_align, new_size, new_align,
+        )),
+        Request::Reset => always(Change::Kept),
+        Request::SetLimit { limit } => always(Change::Limited(Some(limit))),
+        Request::NoLimit => always(Change::Limited(None)),
+        Request::AllocateWithToken { size, align } => Ran::from(allocate_with_token_placed(
+            a, size, align,
+        )),
+        Request::Cancel {
+            offset,
+            count,
+            pointer,
+        } => Ran::from(cancel_ended(a, offset, Token { count, pointer })),
+        Request::Resize {
+            offset,
+            old_size,
+            align,
+            new_size,
+        } => Ran::from(resize_placed(
+            a, region, offset, old_size, align, new_size,
         )),
     }
 }

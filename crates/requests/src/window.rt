@@ -3,12 +3,13 @@ ghost use Rattle.std.specs.Prelude.{◌≡◌, true, ◌+◌, ◌<◌, ◌^◌, 
 ghost use Rattle.arena.specs.Sound.{sound_of};
 ghost use Rattle.requests.specs.Window.{memory_of, passed_of, Through};
 
-use crate::Front;
 use crate::print::put_line;
 use crate::read::read_front;
 use crate::run::run;
 use arena::Arena;
 use arena::change::make;
+use arena::lent::Lent;
+use arena::sound::Sound;
 
 // Any line fits in this many bytes.
 pub const LINE: usize = 64;
@@ -41,26 +42,30 @@ pub fn run_window(
     let mut next = number;
     let mut taken = 0;
     let mut written = 0;
+    // A record's length says where the next begins, and its line how much room is left: no iterator counts both.
     while LINE <= out.len() - written {
-        let Front::Whole(size, request) = read_front(&window[taken..]) else {
+        let Ok(record) = read_front(&window[taken..]) else {
             break;
         };
-        let ran = run(head, &starts, &sizes, &pointers, region, request);
-        let reply = ran.reply;
-        let change = ran.change;
-        head = make(head, &mut starts, &mut sizes, &mut pointers, change);
-        written = put_line(out, written, next, reply);
-        taken += size;
+        let lent = Lent {
+            head,
+            starts: &starts,
+            sizes: &sizes,
+            pointers: &pointers,
+        };
+        let ran = run(&Sound { lent }, region, record.request);
+        head = make(head, &mut starts, &mut sizes, &mut pointers, ran.change);
+        written = put_line(out, written, next, ran.reply);
+        taken += record.size;
         next += 1;
     }
-    let held = Arena {
-        head,
-        starts,
-        sizes,
-        pointers,
-    };
     Progress {
-        arena: held,
+        arena: Arena {
+            head,
+            starts,
+            sizes,
+            pointers,
+        },
         number: next,
         taken,
         written,

@@ -1,20 +1,19 @@
 // Grow (`grow` and `grow_zeroed` of the Rust library's Allocator).
-ghost use Rattle.std.specs.Prelude.{◌≡◌, true, length};
-ghost use Rattle.std.proofs.Math.Option.{none};
-ghost use Rattle.arena.specs.Record.{record_of, chunks_of, held_of};
-ghost use Rattle.arena.specs.Sound.{sound_of};
+ghost use Rattle.std.specs.Prelude.{◌≡◌, length, None};
+ghost use Rattle.arena.specs.Record.{held_of};
+ghost use Rattle.arena.specs.Inner.{lent_of};
 ghost use Rattle.calls.specs.Allocate.{given};
 ghost use Rattle.calls.specs.Grow.{grow_in, grow_of, grow_bytes, grow_zeroed_bytes};
-ghost use Rattle.calls.specs.Inner.{fast_of, grown_pointer, FastBy, PlacedBy, GrowTested};
+ghost use Rattle.calls.specs.Inner.{grown_pointer, FastBy, AnsweredBy, GrowTested};
 
-use arena::change::{Change, make};
-use arena::{Answer, Arena, Head};
-use calls::allocate::{allocate_in_full, refused};
+use arena::sound::Sound;
+use arena::{Arena, Outcome};
+use calls::Answered;
+use calls::allocate::allocate_in_full;
 use calls::block::{is_at_pointer, is_last_block};
 use calls::bytes::{carry, fill};
-use calls::fast::{Fast, current_gives};
-use calls::refusals::{change_answer, lent_answer, nowhere};
-use calls::{Allocation, Given, Placed};
+use calls::fast::current_gives;
+use calls::refusals::{change_answer, lent_sound};
 
 // The block at the current pointer grows downwards: the bytes that it lacks are asked of the current chunk, and it starts where they start.
 //
@@ -23,78 +22,63 @@ use calls::{Allocation, Given, Placed};
 //     after   [ old bytes . . . . . . ] . new bytes .
 //
 // Where it grows by fewer bytes than it has, as here, the two places overlap.
-fn in_place<'a>(
-    h: Head,
-    starts: &'a [usize; 32],
-    sizes: &'a [usize; 32],
-    pointers: &'a [usize; 32],
+fn in_place(
+    a: &Sound,
     offset: usize,
     old: usize,
     old_align: usize,
     new: usize,
     new_align: usize,
-) -> Fast
-    requires { GrowTested (record_of h starts.now sizes.now pointers.now) old old_align new new_align }
-    ensures { result ≡ fast_of (grown_pointer h.minimum (chunks_of starts.now sizes.now pointers.now h.count) offset old old_align new new_align) }
+) -> Option<usize>
+    requires { GrowTested (lent_of a.now.lent) old old_align new new_align }
+    ensures { result ≡ grown_pointer a.now.lent.head.minimum (held_of (lent_of a.now.lent)) offset old old_align new new_align }
 {
     if old_align < new_align {
-        return Fast::Full;
+        return None;
     }
-    if !is_at_pointer(h, starts, sizes, pointers, offset) {
-        return Fast::Full;
+    if !is_at_pointer(a, offset) {
+        return None;
     }
-    let more = rounding::up_to_power(new, h.minimum) - old;
-    current_gives(h, starts, sizes, pointers, more, old_align)
+    let more = rounding::up_to_power(new, a.lent.head.minimum) - old;
+    current_gives(a, more, old_align)
 }
 
 // Where the grown block stands, in place or afresh; no byte is carried yet.
-pub fn grown_block<'a>(
-    h: Head,
-    starts: &'a [usize; 32],
-    sizes: &'a [usize; 32],
-    pointers: &'a [usize; 32],
+pub fn grown_block(
+    a: &Sound,
     offset: usize,
     old: usize,
     old_align: usize,
     new: usize,
     new_align: usize,
-) -> Placed
-    requires { GrowTested (record_of h starts.now sizes.now pointers.now) old old_align new new_align }
-    ensures { PlacedBy (λ a. given none a (grow_in a.head (held_of a) offset old old_align new new_align)) (record_of h starts.now sizes.now pointers.now) result }
+) -> Answered<usize>
+    requires { GrowTested (lent_of a.now.lent) old old_align new new_align }
+    ensures { AnsweredBy (λ r. given None r (grow_in r.head (held_of r) offset old old_align new new_align)) (lent_of a.now.lent) result }
 {
-    let Fast::Room(p) = in_place(
-        h, starts, sizes, pointers, offset, old, old_align, new, new_align,
+    let Some(p) = in_place(
+        a, offset, old, old_align, new, new_align,
     ) else {
-        return allocate_in_full(h, starts, sizes, pointers, new, new_align);
+        return allocate_in_full(a, new, new_align);
     };
-    Placed {
-        answer: Given::At(p),
-        change: Change::Moved(p),
-    }
+    Answered::moved(p)
 }
 
-// Every test and every way to serve, on a record that is known to be sound, lent its own region.
-fn grow_in_full<'a>(
-    h: Head,
-    starts: &'a [usize; 32],
-    sizes: &'a [usize; 32],
-    pointers: &'a [usize; 32],
+// Every test and every way to serve, in the record's own region.
+fn grow_in_full(
+    a: &Sound,
     region: &mut [u8],
     offset: usize,
     old: usize,
     old_align: usize,
     new: usize,
     new_align: usize,
-) -> Placed
-    requires { (sound_of (record_of h starts.now sizes.now pointers.now) ≡ true) × (length region.old ≡ h.region) }
-    ensures placed_by { PlacedBy (λ a. grow_of a (length region.old) offset old old_align new new_align) (record_of h starts.now sizes.now pointers.now) result }
-    ensures region_after { region.new ≡ grow_bytes (record_of h starts.now sizes.now pointers.now) region.old offset old old_align new new_align }
+) -> Answered<usize>
+    requires { length region.old ≡ a.now.lent.head.region }
+    ensures placed_by { AnsweredBy (λ r. grow_of r (length region.old) offset old old_align new new_align) (lent_of a.now.lent) result }
+    ensures region_after { region.new ≡ grow_bytes (lent_of a.now.lent) region.old offset old old_align new new_align }
 {
-    if let Answer::Refused(r) = change_answer(
-        h,
-        starts,
-        sizes,
-        pointers,
+    if let Err(r) = change_answer(
+        a,
         offset,
         old,
         old_align,
@@ -102,13 +86,12 @@ fn grow_in_full<'a>(
         new_align,
         new < old,
     ) {
-        return nowhere(r);
+        return Answered::refused(r);
     }
     let got = grown_block(
-        h, starts, sizes, pointers, offset, old, old_align, new, new_align,
+        a, offset, old, old_align, new, new_align,
     );
-    let answer = got.answer;
-    let Given::At(to) = answer else {
+    let Ok(to) = got.answer else {
         return got;
     };
     carry(region, offset, to, old);
@@ -116,73 +99,57 @@ fn grow_in_full<'a>(
 }
 
 // In place, where nothing refuses and the alignment stays.
-fn grow_fast<'a>(
-    h: Head,
-    starts: &'a [usize; 32],
-    sizes: &'a [usize; 32],
-    pointers: &'a [usize; 32],
+fn grow_fast(
+    a: &Sound,
     offset: usize,
     old: usize,
     old_align: usize,
     new: usize,
     new_align: usize,
-) -> Fast
-    requires { sound_of (record_of h starts.now sizes.now pointers.now) ≡ true }
-    ensures { FastBy (λ a. grow_of a a.head.region offset old old_align new new_align) (record_of h starts.now sizes.now pointers.now) result }
+) -> Option<usize>
+    ensures { FastBy (λ r. grow_of r r.head.region offset old old_align new new_align) (lent_of a.now.lent) result }
 {
     if new < old {
-        return Fast::Full;
+        return None;
     }
     if Arena::MOST < new {
-        return Fast::Full;
+        return None;
     }
     if new_align != old_align {
-        return Fast::Full;
+        return None;
     }
-    if !is_last_block(h, starts, sizes, pointers, offset, old, old_align) {
-        return Fast::Full;
+    if !is_last_block(a, offset, old, old_align) {
+        return None;
     }
     in_place(
-        h, starts, sizes, pointers, offset, old, old_align, new, new_align,
+        a, offset, old, old_align, new, new_align,
     )
 }
 
 // The same as in full, but short, as allocate's is.
-pub fn grow_placed<'a>(
-    h: Head,
-    starts: &'a [usize; 32],
-    sizes: &'a [usize; 32],
-    pointers: &'a [usize; 32],
+pub fn grow_placed(
+    a: &Sound,
     region: &mut [u8],
     offset: usize,
     old: usize,
     old_align: usize,
     new: usize,
     new_align: usize,
-) -> Placed
-    requires { (sound_of (record_of h starts.now sizes.now pointers.now) ≡ true) × (length region.old ≡ h.region) }
-    ensures placed_by { PlacedBy (λ a. grow_of a (length region.old) offset old old_align new new_align) (record_of h starts.now sizes.now pointers.now) result }
-    ensures region_after { region.new ≡ grow_bytes (record_of h starts.now sizes.now pointers.now) region.old offset old old_align new new_align }
+) -> Answered<usize>
+    requires { length region.old ≡ a.now.lent.head.region }
+    ensures placed_by { AnsweredBy (λ r. grow_of r (length region.old) offset old old_align new new_align) (lent_of a.now.lent) result }
+    ensures region_after { region.new ≡ grow_bytes (lent_of a.now.lent) region.old offset old old_align new new_align }
 {
-    let Fast::Room(p) = grow_fast(
-        h, starts, sizes, pointers, offset, old, old_align, new, new_align,
+    let Some(p) = grow_fast(
+        a, offset, old, old_align, new, new_align,
     ) else {
-        let copy = Head {
-            region: h.region,
-            minimum: h.minimum,
-            limited: h.limited,
-            limit: h.limit,
-            count: h.count,
-        };
+        let copy = *a;
         return grow_in_full(
-            copy, starts, sizes, pointers, region, offset, old, old_align, new, new_align,
+            &copy, region, offset, old, old_align, new, new_align,
         );
     };
     carry(region, offset, p, old);
-    Placed {
-        answer: Given::At(p),
-        change: Change::Moved(p),
-    }
+    Answered::moved(p)
 }
 
 pub fn grow(
@@ -193,30 +160,21 @@ pub fn grow(
     old_align: usize,
     new: usize,
     new_align: usize,
-) -> Allocation
+) -> Outcome<usize>
     ensures value { result ≡ grow_of a (length region.old) offset old old_align new new_align }
     ensures region_after { region.new ≡ grow_bytes a region.old offset old old_align new new_align }
 {
-    let head = a.head;
-    let mut starts = a.starts;
-    let mut sizes = a.sizes;
-    let mut pointers = a.pointers;
-    if let Answer::Refused(r) = lent_answer(head, &starts, &sizes, &pointers, region.len()) {
-        return refused(a, r);
-    }
-    let placed = grow_placed(
-        head, &starts, &sizes, &pointers, region, offset, old, old_align, new, new_align,
-    );
-    let answer = placed.answer;
-    let change = placed.change;
-    let head = make(head, &mut starts, &mut sizes, &mut pointers, change);
-    let arena = Arena {
-        head,
-        starts,
-        sizes,
-        pointers,
+    let sound = match lent_sound(a.lent(), region.len()) {
+        Ok(sound) => sound,
+        Err(r) => return Outcome::refused(a, r),
     };
-    Allocation { answer, arena }
+    let got = grow_placed(
+        &sound, region, offset, old, old_align, new, new_align,
+    );
+    Outcome {
+        answer: got.answer,
+        arena: a.changed(got.change),
+    }
 }
 
 // The bytes after the old ones are cleared.
@@ -228,33 +186,13 @@ pub fn grow_zeroed(
     old_align: usize,
     new: usize,
     new_align: usize,
-) -> Allocation
+) -> Outcome<usize>
     ensures value { result ≡ grow_of a (length region.old) offset old old_align new new_align }
     ensures region_after { region.new ≡ grow_zeroed_bytes a region.old offset old old_align new new_align }
 {
-    let head = a.head;
-    let mut starts = a.starts;
-    let mut sizes = a.sizes;
-    let mut pointers = a.pointers;
-    if let Answer::Refused(r) = lent_answer(head, &starts, &sizes, &pointers, region.len()) {
-        return refused(a, r);
+    let got = grow(a, region, offset, old, old_align, new, new_align);
+    if let Ok(to) = got.answer {
+        fill(region, to + old, new - old, 0);
     }
-    let placed = grow_placed(
-        head, &starts, &sizes, &pointers, region, offset, old, old_align, new, new_align,
-    );
-    let answer = placed.answer;
-    let change = placed.change;
-    let head = make(head, &mut starts, &mut sizes, &mut pointers, change);
-    let arena = Arena {
-        head,
-        starts,
-        sizes,
-        pointers,
-    };
-    let got = Allocation { answer, arena };
-    let Given::At(to) = answer else {
-        return got;
-    };
-    fill(region, to + old, new - old, 0);
     got
 }

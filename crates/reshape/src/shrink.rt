@@ -1,30 +1,27 @@
 // Shrink (`shrink` of the Rust library's Allocator).
-ghost use Rattle.std.specs.Prelude.{◌≡◌, true, ◌+◌, ◌≤◌, length};
-ghost use Rattle.std.proofs.Math.Option.{none};
-ghost use Rattle.arena.specs.Record.{record_of, held_of};
-ghost use Rattle.arena.specs.Sound.{sound_of};
+ghost use Rattle.std.specs.Prelude.{◌≡◌, ◌+◌, ◌≤◌, length, None, Ok};
+ghost use Rattle.arena.specs.Record.{held_of};
+ghost use Rattle.arena.specs.Inner.{lent_of};
 ghost use Rattle.arena.specs.declared.change.Change.TheVariants.{Same};
-ghost use Rattle.calls.specs.declared.Given.TheVariants.{At};
 ghost use Rattle.calls.specs.Allocate.{given};
 ghost use Rattle.calls.specs.Shrink.{shrunk_in_place, shrink_in, shrink_of, shrink_bytes};
-ghost use Rattle.calls.specs.Inner.{FastBy, PlacedBy, ShrinkTested};
+ghost use Rattle.calls.specs.Inner.{FastBy, AnsweredBy, ShrinkTested};
 
-use arena::change::{Change, make};
-use arena::sizing::larger;
-use arena::{Answer, Arena, Head};
-use calls::allocate::{allocate_in_full, refused};
+use arena::change::Change;
+use arena::sound::Sound;
+use arena::{Arena, Outcome};
+use calls::Answered;
+use calls::allocate::allocate_in_full;
 use calls::block::{is_at_pointer, is_last_block};
 use calls::bytes::carry;
-use calls::fast::Fast;
-use calls::refusals::{change_answer, lent_answer, nowhere};
-use calls::{Allocation, Given, Placed};
+use calls::refusals::{change_answer, lent_sound};
 
 // The block keeps its offset, and the record stays as it is.
-fn stay(offset: usize) -> Placed
-    ensures { result ≡ record { answer = At offset; change = Same } }
+fn stay(offset: usize) -> Answered<usize>
+    ensures { result ≡ record { answer = Ok offset; change = Same } }
 {
-    Placed {
-        answer: Given::At(offset),
+    Answered {
+        answer: Ok(offset),
         change: Change::Same,
     }
 }
@@ -36,78 +33,63 @@ fn stay(offset: usize) -> Placed
 //     after                               [ kept . . . ]  .
 //
 // For that d has to be half of the old bytes, rounded up: from 5 bytes to 3, d is 2, and the 3 kept bytes would overlap.
-fn shrunk_in_place<'a>(
-    h: Head,
-    starts: &'a [usize; 32],
-    sizes: &'a [usize; 32],
-    pointers: &'a [usize; 32],
+fn shrunk_in_place(
+    a: &Sound,
     offset: usize,
     old: usize,
     d: usize,
-) -> Placed
-    requires { (sound_of (record_of h starts.now sizes.now pointers.now) ≡ true) × (offset + old ≤ h.region) × (d ≤ old) }
-    ensures { PlacedBy (λ a. given none a (shrunk_in_place (held_of a) offset old d)) (record_of h starts.now sizes.now pointers.now) result }
+) -> Answered<usize>
+    requires { (offset + old ≤ a.now.lent.head.region) × (d ≤ old) }
+    ensures { AnsweredBy (λ r. given None r (shrunk_in_place (held_of r) offset old d)) (lent_of a.now.lent) result }
 {
-    if !is_at_pointer(h, starts, sizes, pointers, offset) {
+    if !is_at_pointer(a, offset) {
         return stay(offset);
     }
     if d < (old + 1) / 2 {
         return stay(offset);
     }
     let to = offset + d;
-    Placed {
-        answer: Given::At(to),
-        change: Change::Moved(to),
-    }
+    Answered::moved(to)
 }
 
 // Where the shrunk block stands; no byte is carried yet.
-pub fn shrunk_block<'a>(
-    h: Head,
-    starts: &'a [usize; 32],
-    sizes: &'a [usize; 32],
-    pointers: &'a [usize; 32],
+pub fn shrunk_block(
+    a: &Sound,
     offset: usize,
     old: usize,
     old_align: usize,
     new: usize,
     new_align: usize,
-) -> Placed
-    requires { ShrinkTested (record_of h starts.now sizes.now pointers.now) offset old new new_align }
-    ensures { PlacedBy (λ a. given none a (shrink_in a.head (held_of a) offset old old_align new new_align)) (record_of h starts.now sizes.now pointers.now) result }
+) -> Answered<usize>
+    requires { ShrinkTested (lent_of a.now.lent) offset old new new_align }
+    ensures { AnsweredBy (λ r. given None r (shrink_in r.head (held_of r) offset old old_align new new_align)) (lent_of a.now.lent) result }
 {
     if new_align <= old_align {
-        let d = rounding::down_to_power(old - new, larger(new_align, h.minimum));
-        return shrunk_in_place(h, starts, sizes, pointers, offset, old, d);
+        let d = rounding::down_to_power(old - new, new_align.max(a.lent.head.minimum));
+        return shrunk_in_place(a, offset, old, d);
     }
     if rounding::is_multiple_of_power(offset, new_align) {
         return stay(offset);
     }
-    allocate_in_full(h, starts, sizes, pointers, new, new_align)
+    allocate_in_full(a, new, new_align)
 }
 
-// Every test and every way to serve, on a record that is known to be sound, lent its own region.
-fn shrink_in_full<'a>(
-    h: Head,
-    starts: &'a [usize; 32],
-    sizes: &'a [usize; 32],
-    pointers: &'a [usize; 32],
+// Every test and every way to serve, in the record's own region.
+fn shrink_in_full(
+    a: &Sound,
     region: &mut [u8],
     offset: usize,
     old: usize,
     old_align: usize,
     new: usize,
     new_align: usize,
-) -> Placed
-    requires { (sound_of (record_of h starts.now sizes.now pointers.now) ≡ true) × (length region.old ≡ h.region) }
-    ensures placed_by { PlacedBy (λ a. shrink_of a (length region.old) offset old old_align new new_align) (record_of h starts.now sizes.now pointers.now) result }
-    ensures region_after { region.new ≡ shrink_bytes (record_of h starts.now sizes.now pointers.now) region.old offset old old_align new new_align }
+) -> Answered<usize>
+    requires { length region.old ≡ a.now.lent.head.region }
+    ensures placed_by { AnsweredBy (λ r. shrink_of r (length region.old) offset old old_align new new_align) (lent_of a.now.lent) result }
+    ensures region_after { region.new ≡ shrink_bytes (lent_of a.now.lent) region.old offset old old_align new new_align }
 {
-    if let Answer::Refused(r) = change_answer(
-        h,
-        starts,
-        sizes,
-        pointers,
+    if let Err(r) = change_answer(
+        a,
         offset,
         old,
         old_align,
@@ -115,13 +97,12 @@ fn shrink_in_full<'a>(
         new_align,
         old < new,
     ) {
-        return nowhere(r);
+        return Answered::refused(r);
     }
     let got = shrunk_block(
-        h, starts, sizes, pointers, offset, old, old_align, new, new_align,
+        a, offset, old, old_align, new, new_align,
     );
-    let answer = got.answer;
-    let Given::At(to) = answer else {
+    let Ok(to) = got.answer else {
         return got;
     };
     carry(region, offset, to, new);
@@ -129,72 +110,56 @@ fn shrink_in_full<'a>(
 }
 
 // Upwards in place, where nothing refuses and the alignment stays.
-fn shrink_fast<'a>(
-    h: Head,
-    starts: &'a [usize; 32],
-    sizes: &'a [usize; 32],
-    pointers: &'a [usize; 32],
+fn shrink_fast(
+    a: &Sound,
     offset: usize,
     old: usize,
     old_align: usize,
     new: usize,
     new_align: usize,
-) -> Fast
-    requires { sound_of (record_of h starts.now sizes.now pointers.now) ≡ true }
-    ensures { FastBy (λ a. shrink_of a a.head.region offset old old_align new new_align) (record_of h starts.now sizes.now pointers.now) result }
+) -> Option<usize>
+    ensures { FastBy (λ r. shrink_of r r.head.region offset old old_align new new_align) (lent_of a.now.lent) result }
 {
     if old < new {
-        return Fast::Full;
+        return None;
     }
     if new_align != old_align {
-        return Fast::Full;
+        return None;
     }
-    if !is_last_block(h, starts, sizes, pointers, offset, old, old_align) {
-        return Fast::Full;
+    if !is_last_block(a, offset, old, old_align) {
+        return None;
     }
-    let d = rounding::down_to_power(old - new, larger(new_align, h.minimum));
+    let d = rounding::down_to_power(old - new, new_align.max(a.lent.head.minimum));
     if d + d < old {
-        return Fast::Full;
+        return None;
     }
-    Fast::Room(offset + d)
+    Some(offset + d)
 }
 
 // The same as in full, but short, as allocate's is.
-pub fn shrink_placed<'a>(
-    h: Head,
-    starts: &'a [usize; 32],
-    sizes: &'a [usize; 32],
-    pointers: &'a [usize; 32],
+pub fn shrink_placed(
+    a: &Sound,
     region: &mut [u8],
     offset: usize,
     old: usize,
     old_align: usize,
     new: usize,
     new_align: usize,
-) -> Placed
-    requires { (sound_of (record_of h starts.now sizes.now pointers.now) ≡ true) × (length region.old ≡ h.region) }
-    ensures placed_by { PlacedBy (λ a. shrink_of a (length region.old) offset old old_align new new_align) (record_of h starts.now sizes.now pointers.now) result }
-    ensures region_after { region.new ≡ shrink_bytes (record_of h starts.now sizes.now pointers.now) region.old offset old old_align new new_align }
+) -> Answered<usize>
+    requires { length region.old ≡ a.now.lent.head.region }
+    ensures placed_by { AnsweredBy (λ r. shrink_of r (length region.old) offset old old_align new new_align) (lent_of a.now.lent) result }
+    ensures region_after { region.new ≡ shrink_bytes (lent_of a.now.lent) region.old offset old old_align new new_align }
 {
-    let Fast::Room(p) = shrink_fast(
-        h, starts, sizes, pointers, offset, old, old_align, new, new_align,
+    let Some(p) = shrink_fast(
+        a, offset, old, old_align, new, new_align,
     ) else {
-        let copy = Head {
-            region: h.region,
-            minimum: h.minimum,
-            limited: h.limited,
-            limit: h.limit,
-            count: h.count,
-        };
+        let copy = *a;
         return shrink_in_full(
-            copy, starts, sizes, pointers, region, offset, old, old_align, new, new_align,
+            &copy, region, offset, old, old_align, new, new_align,
         );
     };
     carry(region, offset, p, new);
-    Placed {
-        answer: Given::At(p),
-        change: Change::Moved(p),
-    }
+    Answered::moved(p)
 }
 
 pub fn shrink(
@@ -205,28 +170,19 @@ pub fn shrink(
     old_align: usize,
     new: usize,
     new_align: usize,
-) -> Allocation
+) -> Outcome<usize>
     ensures value { result ≡ shrink_of a (length region.old) offset old old_align new new_align }
     ensures region_after { region.new ≡ shrink_bytes a region.old offset old old_align new new_align }
 {
-    let head = a.head;
-    let mut starts = a.starts;
-    let mut sizes = a.sizes;
-    let mut pointers = a.pointers;
-    if let Answer::Refused(r) = lent_answer(head, &starts, &sizes, &pointers, region.len()) {
-        return refused(a, r);
-    }
-    let placed = shrink_placed(
-        head, &starts, &sizes, &pointers, region, offset, old, old_align, new, new_align,
-    );
-    let answer = placed.answer;
-    let change = placed.change;
-    let head = make(head, &mut starts, &mut sizes, &mut pointers, change);
-    let arena = Arena {
-        head,
-        starts,
-        sizes,
-        pointers,
+    let sound = match lent_sound(a.lent(), region.len()) {
+        Ok(sound) => sound,
+        Err(r) => return Outcome::refused(a, r),
     };
-    Allocation { answer, arena }
+    let got = shrink_placed(
+        &sound, region, offset, old, old_align, new, new_align,
+    );
+    Outcome {
+        answer: got.answer,
+        arena: a.changed(got.change),
+    }
 }

@@ -1,18 +1,20 @@
--- Powers of two: a number with one bit set is one, of two the smaller divides the larger, and the next one at or above n is the only one between n and its double.
+-- Powers of two: a number with one bit set is one, of two the smaller divides the larger, and the next one at or above n is the least there is.
 -- Assumes nothing.
 use Prim.Native.Nat.{ℕ, suc, ◌+◌, ◌-◌, ◌*◌, ◌/◌, ◌%◌, ◌^◌, ◌≤◌, ◌<◌, max, ◌∣◌}
-use native.Mathlib.Nat.{le_refl, le_trans, le_antisymm, lt_of_not-le, le_of_lt, eq-zero-or-pos, max-eq_left, max-eq_right, le-max_left, le-max_right, add-sub_of_le, dvd-mul_right, dvd_trans, pow-suc}
+use native.Mathlib.Nat.{le_antisymm, lt_of_not-le, le_of_lt, eq-zero-or-pos, max-eq_left, max-eq_right, le-max_left, le-max_right, add-sub_of_le, dvd-mul_right, dvd_trans, pow-suc}
 use native.Mathlib.Decide.{dec_le}
 use native.Mathlib.Omega.{arith}
 use mathlib.Core.Bool.{true}
 use mathlib.Core.Logic.{⊎_elim}
-use mathlib.Core.Option.{Option, none, some, get_or}
+use Rattle.std.specs.Prelude.{Option, None, Some, unwrap_or}
 use mathlib.Core.Path.{◌≡◌, refl, sym, ◌∙◌, ap, subst}
 use lib.Arith.{bin_ind}
 use lib.Count.{ones, ones_step, ones_cat}
 use lib.Dec.{leb}
 use lib.Pow.{pow_pos, pow_mono, pow-lt, pow-add}
 use borrow.Author.Tests.{eqb-true, eq-eqb, leb-true, leb-false}
+use Rattle.std.specs.Int.{IsNextPowerOfTwo}
+use Rattle.std.proofs.lemmas.Nat.{zero_from_ones}
 use Rattle.rounding.specs.First.{only, first}
 use Rattle.rounding.specs.Round.{round_down, one_bit, next_power}
 use Rattle.rounding.proofs.First.{first-at, first-none, only-passed, only-failed}
@@ -30,12 +32,6 @@ pub power-positive : {n : ℕ} → Power n → 0 < n
 power-positive p = rw p.value (pow_pos p.exponent)
 
 -- exactly one bit is set in a power of two, and in no other number
-pub no_ones : (n : ℕ) → ones n ≡ 0 → n ≡ 0
-no_ones = bin_ind (λ (n : ℕ). ones n ≡ 0 → n ≡ 0) (λ h. refl) (λ n half h.
-    let step = ones_step n in
-    let rest : n / 2 ≡ 0 = half (omega arith) in
-    omega arith)
-
 one_more : (n : ℕ) → (ones (n / 2) ≡ 1 → Power (n / 2)) → ones n ≡ 1 → Power n
 one_more n half h = ⊎_elim even odd (eq-zero-or-pos (n % 2))
   where
@@ -46,7 +42,7 @@ one_more n half h = ⊎_elim even odd (eq-zero-or-pos (n % 2))
 
     odd : 0 < n % 2 → Power n
     odd o =
-        let rest = no_ones (n / 2) (omega (arith, ones_step n)) in
+        let rest = zero_from_ones (n / 2) (omega (arith, ones_step n)) in
         record { exponent = 0; value = omega arith }
 
 pub one-bit-power : (n : ℕ) → one_bit n ≡ true → Power n
@@ -95,9 +91,6 @@ of-max-left {p} {q} hp hq h = dvd_trans p (power_divides hp (power-max hp hq) (l
 pub of-max-right : {p q n : ℕ} → Power p → Power q → max p q ∣ n → q ∣ n
 of-max-right {p} {q} hp hq h = dvd_trans q (power_divides hq (power-max hp hq) (le-max_right p q)) h
 
-pub max-multiple : (p q : ℕ) {n : ℕ} → p ∣ n → q ∣ n → max p q ∣ n
-max-multiple p q {n} h k = max_cases (λ (m : ℕ). m ∣ n) p q (λ l. k) (λ l. h)
-
 -- rounded down by one and then by the other, a number is rounded down by the larger, so that a multiple of one stays a multiple of it
 pub down-twice : (n : ℕ) {p q : ℕ} → Power p → Power q → round_down (round_down n p) q ≡ round_down n (max p q)
 down-twice n {p} {q} hp hq =
@@ -119,12 +112,12 @@ pub record Next (n p : ℕ) : Type 0 where
 abbrev choices : ℕ → ℕ → Option ℕ
 choices n k = only (leb n (2 ^ k)) (2 ^ k)
 
-too_small : (n k : ℕ) → choices n k ≡ none → 2 ^ k < n
+too_small : (n k : ℕ) → choices n k ≡ None → 2 ^ k < n
 too_small n k e = leb-false n (2 ^ k) (only-failed (leb n (2 ^ k)) (2 ^ k) e)
 
-chosen : (n : ℕ) → n ≤ 2 ^ 64 → (o : Option ℕ) → first 65 (choices n) ≡ o → Next n (get_or o 0)
-chosen n h none e = absurd (omega (arith, too_small n 64 (first-none 65 (choices n) e 64 (omega arith))))
-chosen n h (some a) e =
+chosen : (n : ℕ) → n ≤ 2 ^ 64 → (o : Option ℕ) → first 65 (choices n) ≡ o → Next n (unwrap_or o 0)
+chosen n h None e = absurd (omega (arith, too_small n 64 (first-none 65 (choices n) e 64 (omega arith))))
+chosen n h (Some a) e =
     let found = first-at 65 (choices n) e in
     let k = found.place in
     let passed = only-passed (leb n (2 ^ k)) (2 ^ k) found.here in
@@ -147,22 +140,15 @@ next-unique {n} h is =
     let found = next_power_lem n h in
     le_antisymm (found.least is.power is.above) (is.least found.power found.above)
 
--- a power between n and its double is the next one, and a power is its own
-pub next-between : {n p : ℕ} → n ≤ 2 ^ 64 → Power p → n ≤ p → p < n * 2 → next_power n ≡ p
-next-between {n} {p} h hp l g =
+-- what the library says of the next power of two leaves no other
+pub next_is : {n p : ℕ} → n ≤ 2 ^ 64 → IsNextPowerOfTwo n p → next_power n ≡ p
+next_is {n} {p} h is =
+    let power : Power p = record { exponent = is.0.0; value = is.0.1 } in
     next-unique h
     (record {
-      power = hp;
-      above = l;
-      least = λ {q} hq m.
-          let not-less : ¬ (q < p) = λ k. omega (arith, power-doubles hq hp k) in
+      power = power;
+      above = is.1;
+      least = λ {q} hq l.
+          let not-less : ¬ (q < p) = λ g. omega (arith, power-doubles hq power g, power-positive hq, is.2) in
           omega arith;
     })
-
-pub next-stays : {p : ℕ} → Power p → p ≤ 2 ^ 64 → next_power p ≡ p
-next-stays {p} hp h = next-unique h (record { power = hp; above = le_refl p; least = λ hq l. l })
-
-pub next-monotone : {n m : ℕ} → n ≤ m → m ≤ 2 ^ 64 → next_power n ≤ next_power m
-next-monotone {n} {m} l h =
-    let found = next_power_lem m h in
-    (next_power_lem n (le_trans l h)).least found.power (le_trans l found.above)

@@ -1,6 +1,5 @@
 -- Document 01, "Order of the port", 1: rounding and powers of two.
-use Rattle.std.specs.Prelude.{ℕ, ◌+◌, ◌-◌, ◌%◌, ◌^◌, Bool, leb, eqb}
-use Rattle.std.proofs.Math.Option.{get_or}
+use Rattle.std.specs.Prelude.{ℕ, ◌+◌, ◌-◌, ◌%◌, ◌^◌, Bool, leb, eqb, unwrap_or}
 use Rattle.std.specs.Int.Count.{ones}
 use Rattle.rounding.specs.First.{only, first}
 
@@ -22,4 +21,4 @@ one_bit n = eqb (ones n) 1
 
 -- the next power of two at or above n: the first of 1, 2, 4, .. 2 ^ 64 that is
 unfoldable pub next_power : ℕ → ℕ
-next_power n = get_or (first 65 (λ k. only (leb n (2 ^ k)) (2 ^ k))) 0
+next_power n = unwrap_or (first 65 (λ k. only (leb n (2 ^ k)) (2 ^ k))) 0

@@ -1,5 +1,5 @@
 // Rounding and powers of two, for every layer above. Where document 01 says "rounded up to" or "rounded down to", one of these is meant.
-#![tactic(auto)]
+#![tactic(auto, unfolding(crate::specs::Round::round_down, crate::specs::Round::round_up, crate::specs::Round::multiple, crate::specs::Round::one_bit))]
 
 ghost use Rattle.std.specs.Prelude.{◌≡◌, true, ◌&&◌, ◌+◌, ◌%◌, ◌^◌, ◌≤◌, ◌<◌, leb};
 ghost use Rattle.rounding.specs.Round.{round_down, round_up, multiple, one_bit, next_power};
@@ -15,14 +15,14 @@ pub fn round_up_to(n: usize, divisor: usize) -> usize
     requires { (0 < divisor) × (n + divisor ≤ 2 ^ 64) }
     ensures { result ≡ round_up n divisor }
 {
-    round_down_to(n + (divisor - 1), divisor)
+    n.next_multiple_of(divisor)
 }
 
 pub fn is_multiple(n: usize, divisor: usize) -> bool
     requires { 0 < divisor }
     ensures { result ≡ multiple divisor n }
 {
-    n % divisor == 0
+    n.is_multiple_of(divisor)
 }
 
 // The same by a power of two, where the remainder is a mask and costs no division.
@@ -54,27 +54,17 @@ pub fn is_multiple_of_power(n: usize, power: usize) -> bool
     remainder_by_power(n, power) == 0
 }
 
-// Exactly one bit set, which is a power of two, and at most so large. Of a number that is not 0 fewer than two bits are one: the compiler then tests both bounds
-// by one comparison, and the bits by a mask.
+// Exactly one bit set, which is a power of two, and at most so large.
 pub fn has_one_bit_up_to(n: usize, most: usize) -> bool
     ensures { result ≡ (one_bit n && leb n most) }
 {
-    if n == 0 {
-        return false;
-    }
-    if most < n {
-        return false;
-    }
-    usize::count_ones(n) < 2
+    n.is_power_of_two() && n <= most
 }
 
-// The least power of two at or above n. One less than n has as many digits as the power has zeros.
+// The least power of two at or above n.
 pub fn next_power_of_two(n: usize) -> usize
     requires { n ≤ 2 ^ 63 }
     ensures { result ≡ next_power n }
 {
-    if n <= 1 {
-        return 1;
-    }
-    1 << (64 - usize::leading_zeros(n - 1))
+    n.next_power_of_two()
 }

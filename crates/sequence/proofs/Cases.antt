@@ -2,7 +2,6 @@
 use mathlib.Core.Path.{◌≡◌, refl}
 use mathlib.Core.Bool.{true}
 use lib.Count.{ones, ones_in}
-use Rattle.arena.specs.declared.Answer.TheVariants.{Done}
 use Rattle.rounding.specs.Every.{every, any}
 use Rattle.rounding.specs.First.{only, seek, first}
 use Rattle.rounding.specs.Round.{multiple, round_down, round_up, one_bit, next_power}
@@ -24,6 +23,7 @@ use Rattle.calls.specs.Write.{copy_in_bytes}
 use Rattle.sequence.specs.Ledger.{kept, noted, choose}
 use Rattle.sequence.specs.History.{if_given, if_done, cancel_with, write_step, on_chosen, step, run, created}
 use Rattle.sequence.specs.Cases.{cases}
+use Rattle.std.specs.Prelude.{Ok}
 
 pub cases-hold : every (λ b. b) cases ≡ true
 unfolding ones ones_in every any only seek first multiple round_down round_up one_bit next_power chunks_of column holding refused_by answered
@@ -36,6 +36,6 @@ unfolding ones ones_in every any only seek first multiple round_down round_up on
 cases-hold = refl
 
 -- the creations that the cases begin with are served, so that the theorem speaks of their states
-pub cases-created : ((created_of 65536 1 0).answer ≡ Done) × ((created_of 4096 1 0).answer ≡ Done) × ((created_of 4096 8 0).answer ≡ Done)
+pub cases-created : ((created_of 65536 1 0).answer ≡ (Ok tt)) × ((created_of 4096 1 0).answer ≡ (Ok tt)) × ((created_of 4096 8 0).answer ≡ (Ok tt))
 unfolding ones ones_in one_bit refused_by allowed_minimum first_chunks created_with creation created_of
 cases-created = (refl, refl, refl)

@@ -3,7 +3,8 @@
 use Prim.Native.Nat.{ℕ, ◌+◌, ◌≤◌, ◌<◌}
 use native.Mathlib.Omega.{arith}
 use mathlib.Core.List.{List, ◌∷◌}
-use mathlib.Core.Option.{Option, none, some, none-ne-some, some-injective}
+use Rattle.std.specs.Prelude.{Option, None, Some}
+use Rattle.std.proofs.lemmas.Option.{none-some, same_Some}
 use mathlib.Core.Path.{◌≡◌, refl, ◌∙◌}
 use lib.ListN.{length, get_or}
 use Rattle.arena.specs.declared.Arena.{Arena}
@@ -26,13 +27,13 @@ use Rattle.sequence.proofs.Invariant.{Invariant, lives, settled, giving-keeps, u
 changed : {a : Arena} {bytes after : List ℕ} {u : Space} {rest : List Space} {n new new_align : ℕ} {t : Taken} (fresh : Option ℕ) →
     Good a.head (held_of a) bytes (u ∷ rest) → Replaced a (length bytes) u.live.offset u.live.size new new_align t →
     Carries bytes after u.live.offset t.offset n new → ((i : ℕ) → i < u.live.size → i < new → i < n) →
-    ((i v : ℕ) → u.live.size ≤ i → i < new → fresh ≡ some v → get_or after (t.offset + i) 0 ≡ v) →
-    Invariant (state_of (holding a.head t.chunks) after (block t.offset new new_align (kept u.live new fresh) none ∷ lives rest))
+    ((i v : ℕ) → u.live.size ≤ i → i < new → fresh ≡ Some v → get_or after (t.offset + i) 0 ≡ v) →
+    Invariant (state_of (holding a.head t.chunks) after (block t.offset new new_align (kept u.live new fresh) None ∷ lives rest))
 changed {u = u} {rest} {new = new} {new_align} {t} fresh good result carries both past =
     let request = result.request in
     let holds = holds-moved u.live good.sits.0.holds new_align fresh carries result.inside both past in
     let (top, after) = replace new new_align request.size_bound request.align_allowed carries.only holds good result.moved in
-    settled (space_of (block t.offset new new_align (kept u.live new fresh) none) top ∷ rest) after refl
+    settled (space_of (block t.offset new new_align (kept u.live new fresh) None) top ∷ rest) after refl
 
 module _ (s : State) (inv : Invariant s) (u : Space) (rest : List Space) (good : Good s.arena.head (held_of s.arena) s.bytes (u ∷ rest)) where
   grown : (new new_align : ℕ) → Invariant (grow_step new new_align s u.live (lives rest))
@@ -40,10 +41,10 @@ module _ (s : State) (inv : Invariant s) (u : Space) (rest : List Space) (good :
   grown new new_align =
       giving-keeps s inv (lives rest) _ _ _ _ (λ x. unchanged _ _)
       (λ t r o e.
-      changed none good
+      changed None good
       (grow-result s.arena (length s.bytes) u.live.offset u.live.size u.live.align new new_align r o)
       (grow-carries s.arena s.bytes u.live.offset u.live.size u.live.align new new_align t.offset e)
-      (λ i l h. l) (λ i v l h z. absurd (none-ne-some v z)))
+      (λ i l h. l) (λ i v l h z. absurd (none-some v z)))
 
   grown-zeroed : (new new_align : ℕ) → Invariant (grow_zeroed_step new new_align s u.live (lives rest))
   unfolding grow_of grow_zeroed_bytes
@@ -51,29 +52,29 @@ module _ (s : State) (inv : Invariant s) (u : Space) (rest : List Space) (good :
       giving-keeps s inv (lives rest) _ _ _ _ (λ x. unchanged _ _)
       (λ t r o e.
       let zeroed = grow-zeroed-carries s.arena s.bytes u.live.offset u.live.size u.live.align new new_align t.offset e in
-      changed (some 0) good
+      changed (Some 0) good
       (grow-result s.arena (length s.bytes) u.live.offset u.live.size u.live.align new new_align r o)
-      zeroed.kept (λ i l h. l) (λ i v l h z. zeroed.zeros i l h ∙ some-injective 0 v z))
+      zeroed.kept (λ i l h. l) (λ i v l h z. zeroed.zeros i l h ∙ same_Some 0 v z))
 
   shrunk : (new new_align : ℕ) → Invariant (shrink_step new new_align s u.live (lives rest))
   unfolding shrink_of shrink_bytes
   shrunk new new_align =
       giving-keeps s inv (lives rest) _ _ _ _ (λ x. unchanged _ _)
       (λ t r o e.
-      changed none good
+      changed None good
       (shrink-result s.arena (length s.bytes) u.live.offset u.live.size u.live.align new new_align r o)
       (shrink-carries s.arena s.bytes u.live.offset u.live.size u.live.align new new_align t.offset e)
-      (λ i l h. h) (λ i v l h z. absurd (none-ne-some v z)))
+      (λ i l h. h) (λ i v l h z. absurd (none-some v z)))
 
   resized : (new : ℕ) → Invariant (resize_step new s u.live (lives rest))
   unfolding resize_of resize_bytes
   resized new =
       giving-keeps s inv (lives rest) _ _ _ _ (λ x. unchanged _ _)
       (λ t r o e.
-      changed none good
+      changed None good
       (resize-result s.arena (length s.bytes) u.live.offset u.live.size u.live.align new r o)
       (resize-carries s.arena s.bytes u.live.offset u.live.size u.live.align new t.offset e)
-      (λ i l h. omega arith) (λ i v l h z. absurd (none-ne-some v z)))
+      (λ i l h. omega arith) (λ i v l h z. absurd (none-some v z)))
 
 module _ (s : State) (inv : Invariant s) (place new : ℕ) where
   pub grow-keeps : (new_align : ℕ) → Invariant (step s (grow place new new_align))

@@ -5,7 +5,7 @@ use native.Mathlib.Nat.{le_refl}
 use native.Mathlib.Omega.{arith}
 use mathlib.Core.Bool.{Bool, true, false, cond}
 use mathlib.Core.List.{List, [], ◌∷◌}
-use mathlib.Core.Option.{Option, none, some}
+use Rattle.std.specs.Prelude.{Option, None, Some}
 use mathlib.Core.Path.{◌≡◌, refl, sym, subst}
 use lib.Dec.{eqb}
 use lib.ListN.{length}
@@ -47,11 +47,11 @@ freed-good {h} (c ∷ cs) {bytes} {u} {rest} g = go (eqb u.live.offset c.pointer
         (up_multiple (u.live.offset + u.live.size) h.minimum)
 
 -- where the pointer goes is the top of the block's space
-returns : {k end top : ℕ} {token : Token} → TokenFits k end top (some token) → cond (eqb token.count k) token.pointer end ≡ top
+returns : {k end top : ℕ} {token : Token} → TokenFits k end top (Some token) → cond (eqb token.count k) token.pointer end ≡ top
 returns {k} {token} (same-chunk p q) = rw (eq-eqb token.count k p) q
 returns {k} {token} (new-chunk p q) = rw (ne_eqb token.count k (λ e. omega arith)) (sym q)
 
-rewound-good : {h : Head} (cs : List Chunk) {bytes : List ℕ} {u : Space} {rest : List Space} (token : Token) → u.live.token ≡ some token →
+rewound-good : {h : Head} (cs : List Chunk) {bytes : List ℕ} {u : Space} {rest : List Space} (token : Token) → u.live.token ≡ Some token →
     Good h cs bytes (u ∷ rest) →
     Good h (rewound cs u.live.offset token) bytes rest
 unfolding rewound
@@ -84,8 +84,8 @@ module _ (s : State) (inv : Invariant s) where
   cancelled : (u : Space) (rest : List Space) → Good s.arena.head (held_of s.arena) s.bytes (u ∷ rest) →
       (token : Option Token) → u.live.token ≡ token → Invariant (cancel_with token s u.live (lives rest))
   unfolding cancel_with cancel_of
-  cancelled u rest good none e = inv
-  cancelled u rest good (some token) e =
+  cancelled u rest good None e = inv
+  cancelled u rest good (Some token) e =
       leaving-keeps s inv (lives rest) _ _ (λ r. settled rest (rewound-good (held_of s.arena) token e good) refl)
 
   pub cancel-keeps : (place : ℕ) → Invariant (step s (cancel place))

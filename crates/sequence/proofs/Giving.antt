@@ -3,7 +3,7 @@
 use Prim.Native.Nat.{ℕ, suc, ◌+◌, ◌≤◌}
 use native.Mathlib.Omega.{arith}
 use mathlib.Core.List.{List, ◌∷◌}
-use mathlib.Core.Option.{Option, none, some}
+use Rattle.std.specs.Prelude.{Option, None, Some}
 use mathlib.Core.Path.{◌≡◌, refl, sym, ap, subst}
 use lib.ListN.{length}
 use Rattle.arena.specs.declared.Head.{Head}
@@ -26,8 +26,8 @@ use Rattle.sequence.proofs.Moves.{Good, forget-second, push, stands_at_pointer, 
 
 -- a block's token, where it has one, was issued by these chunks
 pub data Issued (cs : List Chunk) : Option Token → Type 0 where
-  unissued : Issued cs none
-  issued : Issued cs (some (token_for cs))
+  unissued : Issued cs None
+  issued : Issued cs (Some (token_for cs))
 
 issued-here : {c : Chunk} {cs : List Chunk} {token : Option Token} → Issued (c ∷ cs) token → TokenFits (suc (length cs)) (end_of c) c.pointer token
 unfolding token_for
@@ -60,9 +60,9 @@ module _ {h : Head} {bytes after : List ℕ} {spaces : List Space} (size align :
 
 module _ {h : Head} {bytes after : List ℕ} {s : Space} {rest : List Space} (new new_align : ℕ) {put : List (Option ℕ)} {t : Taken}
     (small : new ≤ most) (allowed : AllowedAlign new_align)
-    (only : OnlyIn bytes after t.offset (t.offset + new)) (holds : Holds after (block t.offset new new_align put none)) where
+    (only : OnlyIn bytes after t.offset (t.offset + new)) (holds : Holds after (block t.offset new new_align put None)) where
   pub replace : {cs : List Chunk} → Good h cs bytes (s ∷ rest) → Moved h s.live.offset s.live.size new new_align t cs →
-      (top : ℕ) × Good h t.chunks after (space_of (block t.offset new new_align put none) top ∷ rest)
+      (top : ℕ) × Good h t.chunks after (space_of (block t.offset new new_align put None) top ∷ rest)
   replace g (afresh served) =
       let (top, both) = give new new_align small allowed only holds g served unissued in
       (top, forget-second both)
@@ -70,16 +70,16 @@ module _ {h : Head} {bytes after : List ℕ} {s : Space} {rest : List Space} (ne
       let place = stands_at_pointer g e in
       let freed = release s.top g e (omega (arith, place.fits.low, place.fits.room)) (omega arith) place.fits.top-on-minimum in (
         s.top,
-        subst (λ (ds : List Chunk). Good h ds after (space_of (block t.offset new new_align put none) s.top ∷ rest)) (sym chunks)
+        subst (λ (ds : List Chunk). Good h ds after (space_of (block t.offset new new_align put None) s.top ∷ rest)) (sym chunks)
             (carve t.offset new new_align freed
             (record { low = r.low; fits = omega (arith, r.within, place.fits.room); on-minimum = r.on-minimum; on-align = r.on-align })
             (record { size_bound = small; align_allowed = allowed; aligned = r.on-align }) no-token only holds),
       )
   replace {cs} g (staying e chunks less d) = (
     s.top,
-    subst (λ (to : ℕ). Good h t.chunks after (space_of (block to new new_align put none) s.top ∷ rest)) (sym e)
-        (subst (λ (ds : List Chunk). Good h ds after (space_of (block s.live.offset new new_align put none) s.top ∷ rest)) (sym chunks)
+    subst (λ (to : ℕ). Good h t.chunks after (space_of (block to new new_align put None) s.top ∷ rest)) (sym e)
+        (subst (λ (ds : List Chunk). Good h ds after (space_of (block s.live.offset new new_align put None) s.top ∷ rest)) (sym chunks)
         (reseat new new_align g less (record { size_bound = small; align_allowed = allowed; aligned = d }) (λ k end f. no-token)
         (subst (λ (to : ℕ). OnlyIn bytes after to (to + new)) e only)
-        (subst (λ (to : ℕ). Holds after (block to new new_align put none)) e holds))),
+        (subst (λ (to : ℕ). Holds after (block to new new_align put None)) e holds))),
   )

@@ -2,13 +2,12 @@
 use Prim.Native.Nat.{ℕ, ◌≤◌}
 use mathlib.Core.Bool.{Bool, true, false, not, ◌&&◌, ◌||◌}
 use mathlib.Core.Logic.{inl, inr}
-use mathlib.Core.Option.{Option, none, some}
+use Rattle.std.specs.Prelude.{Option, None, Some, Ok}
 use mathlib.Core.Path.{◌≡◌, refl, ap}
 use lib.Dec.{ltb, eqb}
 use borrow.Author.Tests.{le-ltb, eq-eqb}
 use Rattle.rounding.proofs.Tests.{or-neither, true-not}
 use Rattle.arena.specs.declared.Arena.{Arena}
-use Rattle.arena.specs.declared.Answer.TheVariants.{Done}
 use Rattle.arena.specs.declared.Refusal.{Refusal}
 use Rattle.arena.specs.Numbers.{most}
 use Rattle.arena.specs.Refusals.{refused_by, answered}
@@ -27,12 +26,12 @@ use Rattle.sequence.specs.Room.{NotRefusedOtherwise}
 use Rattle.sequence.specs.Heard.{Allowed, Heard, CancelDone, HeardOfBlock}
 use Rattle.sequence.specs.Demand.{Accepted, TokenAccepted}
 
-given-heard : {r : Option Refusal} (a : Arena) (o : Option Taken) → r ≡ none → NotRefusedOtherwise (given r a o).answer
+given-heard : {r : Option Refusal} (a : Arena) (o : Option Taken) → r ≡ None → NotRefusedOtherwise (given r a o).answer
 unfolding given
-given-heard a none e = rw e (inr refl)
-given-heard a (some t) e = rw e (inl refl)
+given-heard a None e = rw e (inr refl)
+given-heard a (Some t) e = rw e (inl refl)
 
-answered-done : {r : Option Refusal} (a changed : Arena) → r ≡ none → (answered r a changed).answer ≡ Done
+answered-done : {r : Option Refusal} (a changed : Arena) → r ≡ None → (answered r a changed).answer ≡ (Ok tt)
 unfolding answered
 answered-done a changed e = rw e
 
@@ -44,7 +43,7 @@ module _ (a : Arena) (lent : ℕ) (sound : sound_of a ≡ true) (region : lent �
   lent-whole : not (eqb lent a.head.region) ≡ false
   lent-whole = true-not (eq-eqb lent a.head.region region)
 
-  request-heard : (size align : ℕ) → Allowed size align → refused_by (request_tests a lent size align) ≡ none
+  request-heard : (size align : ℕ) → Allowed size align → refused_by (request_tests a lent size align) ≡ None
   request-heard size align (small, allowed) =
       none-applies _ (true-not sound, (lent-whole, (le-ltb most size small, (true-not allowed, tt))))
 
@@ -65,8 +64,8 @@ module _ (a : Arena) (lent : ℕ) (sound : sound_of a ≡ true) (region : lent �
 
     cancel-heard : (token : Option Token) → TokenAccepted a b.offset token → CancelDone a b.offset token
     unfolding cancel_of
-    cancel-heard none t = tt
-    cancel-heard (some token) t =
+    cancel-heard None t = tt
+    cancel-heard (Some token) t =
         answered-done a _ (none-applies _ (true-not sound, (t, tt)))
 
     pub block-heard : TokenAccepted a b.offset b.token → HeardOfBlock a lent b

@@ -3,7 +3,6 @@ use Prim.Native.Nat.{ℕ}
 use mathlib.Core.List.{List, [], ◌∷◌}
 use mathlib.Core.Path.{◌≡◌, refl, sym, subst}
 use lib.ListN.{length}
-use Rattle.arena.specs.declared.Answer.TheVariants.{Done}
 use Rattle.arena.specs.Creation.{created_of}
 use Rattle.arena.specs.declared.Arena.{Arena}
 use Rattle.arena.proofs.StaysSound.{created-started}
@@ -15,9 +14,10 @@ use Rattle.sequence.proofs.Requests.{allocate-keeps, token-keeps, copy-keeps, fi
 use Rattle.sequence.proofs.Changes.{grow-keeps, grow-zeroed-keeps, shrink-keeps, resize-keeps}
 use Rattle.sequence.proofs.Endings.{free-keeps, cancel-keeps, reset-keeps, set-limit-keeps, no-limit-keeps}
 use Rattle.sequence.proofs.Writes.{write_keeps, lend-keeps}
+use Rattle.std.specs.Prelude.{Ok}
 
 -- a new arena has no live block
-pub created-keeps : (minimum capacity : ℕ) (bytes : List ℕ) → (created_of (length bytes) minimum capacity).answer ≡ Done → Invariant (created minimum capacity bytes)
+pub created-keeps : (minimum capacity : ℕ) (bytes : List ℕ) → (created_of (length bytes) minimum capacity).answer ≡ (Ok tt) → Invariant (created minimum capacity bytes)
 unfolding created
 created-keeps minimum capacity bytes e =
     let started = created-started (length bytes) minimum capacity e in

@@ -4,7 +4,7 @@ use Prim.Native.Nat.{ℕ, ◌+◌, ◌-◌, ◌≤◌, ◌<◌}
 use native.Mathlib.Omega.{arith}
 use mathlib.Core.List.{List}
 use mathlib.Core.Logic.{⊎_elim}
-use mathlib.Core.Option.{Option, none, some}
+use Rattle.std.specs.Prelude.{Option, None, Some}
 use mathlib.Core.Path.{◌≡◌, ap, ◌∙◌}
 use lib.ListN.{length, get_or, length-replicate, length-map}
 use Rattle.calls.specs.declared.Token.{Token}
@@ -32,16 +32,16 @@ holds-elsewhere b only apart h =
 pub holds-unknown : (bytes : List ℕ) (offset size align : ℕ) (token : Option Token) → offset + size ≤ length bytes →
     Holds bytes (block offset size align (unknown size) token)
 holds-unknown bytes offset size align token l =
-    record { each_byte = length-replicate size none; in_region = l; stands = λ i v e. absurd (unknown-nothing size i v e) }
+    record { each_byte = length-replicate size None; in_region = l; stands = λ i v e. absurd (unknown-nothing size i v e) }
 
 -- a new block that is written whole
 pub holds-known : {bytes after : List ℕ} (offset align : ℕ) (new : List ℕ) (token : Option Token) → Copied bytes after offset new →
     Holds after (block offset (length new) align (known new) token)
 holds-known offset align new token c =
     record {
-      each_byte = length-map new some;
+      each_byte = length-map new Some;
       in_region = omega (arith, c.inside, c.only.same_length);
-      stands = λ i v e. c.reads i (omega (arith, known-inside (known new) i v e, length-map new (λ (x : ℕ). some x))) ∙ known_at new i v e;
+      stands = λ i v e. c.reads i (omega (arith, known-inside (known new) i v e, length-map new (λ (x : ℕ). Some x))) ∙ known_at new i v e;
     }
 
 -- a block that its owner writes in
@@ -66,7 +66,7 @@ holds-noted {bytes} b from new l h =
         let place : b.offset + i - (b.offset + from) ≡ i - from = omega arith in
         written-within bytes (b.offset + from) new room (b.offset + i) (omega arith) (omega arith) ∙ ap (λ (k : ℕ). get_or new k 0) place ∙ is
 
-    before : (i v : ℕ) → (from ≤ i → i < from + length new → ⊥) × (get_or b.put i none ≡ some v) →
+    before : (i v : ℕ) → (from ≤ i → i < from + length new → ⊥) × (get_or b.put i None ≡ Some v) →
         get_or (written bytes (b.offset + from) new) (b.offset + i) 0 ≡ v
     before i v (out, is) =
         written-elsewhere bytes (b.offset + from) new room (b.offset + i) (λ a g. out (omega arith) (omega arith)) ∙ h.stands i v is
@@ -74,8 +74,8 @@ holds-noted {bytes} b from new l h =
 -- a block that moves with its first bytes, and whose bytes past the old size are fresh
 pub holds-moved : {bytes after : List ℕ} {n to new : ℕ} (b : Live) → Holds bytes b → (align : ℕ) (fresh : Option ℕ) → Carries bytes after b.offset to n new →
     to + new ≤ length bytes → ((i : ℕ) → i < b.size → i < new → i < n) →
-    ((i v : ℕ) → b.size ≤ i → i < new → fresh ≡ some v → get_or after (to + i) 0 ≡ v) →
-    Holds after (block to new align (kept b new fresh) none)
+    ((i v : ℕ) → b.size ≤ i → i < new → fresh ≡ Some v → get_or after (to + i) 0 ≡ v) →
+    Holds after (block to new align (kept b new fresh) None)
 holds-moved {after} {to} {new} b h align fresh moved room both past =
     record {
       each_byte = kept-length b h.each_byte new fresh;
@@ -83,8 +83,8 @@ holds-moved {after} {to} {new} b h align fresh moved room both past =
       stands = λ i v e. ⊎_elim (before i v) (beyond i v) (kept-cases b h.each_byte new fresh i v e);
     }
   where
-    before : (i v : ℕ) → (i < b.size) × (i < new) × (get_or b.put i none ≡ some v) → get_or after (to + i) 0 ≡ v
+    before : (i v : ℕ) → (i < b.size) × (i < new) × (get_or b.put i None ≡ Some v) → get_or after (to + i) 0 ≡ v
     before i v (old, small, is) = moved.reads i (both i old small) ∙ h.stands i v is
 
-    beyond : (i v : ℕ) → (b.size ≤ i) × (i < new) × (fresh ≡ some v) → get_or after (to + i) 0 ≡ v
+    beyond : (i v : ℕ) → (b.size ≤ i) × (i < new) × (fresh ≡ Some v) → get_or after (to + i) 0 ≡ v
     beyond i v (old, small, is) = past i v old small is

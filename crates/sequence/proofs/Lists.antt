@@ -1,8 +1,9 @@
 -- Facts of each element and of each two, when one element is chosen and put first. Each goes down the list. Assumes nothing.
 use Prim.Native.Nat.{ℕ, zero, suc}
 use mathlib.Core.List.{List, [], ◌∷◌, map}
-use mathlib.Core.Option
-use mathlib.Core.Option.{Option, none, some, none-ne-some, map-eq-some_iff}
+use Rattle.std.specs.Prelude.{Option, None, Some, option_map}
+use Rattle.std.proofs.lemmas.Option.{none-some}
+use Rattle.rounding.proofs.Optional.{mapped_some}
 use mathlib.Core.Path.{◌≡◌, refl, ap, subst, ◌∙◌}
 use Rattle.rounding.specs.Every.{Each}
 use Rattle.rounding.proofs.Every.{every_map}
@@ -30,43 +31,43 @@ module _ {A : Type 0} where
   )
 
   -- the chosen one, put first
-  pub every-chosen : (P : A → Type 0) (xs : List A) (place : ℕ) {c : Chosen A} → choose xs place ≡ some c → Each P xs → Each P (c.one ∷ c.others)
+  pub every-chosen : (P : A → Type 0) (xs : List A) (place : ℕ) {c : Chosen A} → choose xs place ≡ Some c → Each P xs → Each P (c.one ∷ c.others)
   unfolding choose
-  every-chosen P [] place {c} e h = absurd (none-ne-some c e)
+  every-chosen P [] place {c} e h = absurd (none-some c e)
   every-chosen P (x ∷ xs) zero {c} e h =
       let same : chosen_of x xs ≡ c = cc in
       subst (λ (d : Chosen A). Each P (d.one ∷ d.others)) same h
   every-chosen P (x ∷ xs) (suc place) e h =
-      let found = (map-eq-some_iff (λ (d : Chosen A). chosen_of d.one (x ∷ d.others)) (choose xs place)).0 e in
+      let found = mapped_some (λ (d : Chosen A). chosen_of d.one (x ∷ d.others)) (choose xs place) e in
       let rest = every-chosen P xs place found.1 h.1 in
       subst (λ (d : Chosen A). Each P (d.one ∷ d.others)) found.2 (rest.0, (h.0, rest.1))
 
-  pub two-chosen : (R : A → A → Type 0) → ((x y : A) → R x y → R y x) → (xs : List A) (place : ℕ) {c : Chosen A} → choose xs place ≡ some c →
+  pub two-chosen : (R : A → A → Type 0) → ((x y : A) → R x y → R y x) → (xs : List A) (place : ℕ) {c : Chosen A} → choose xs place ≡ Some c →
       EachTwo R xs → EachTwo R (c.one ∷ c.others)
   unfolding choose
-  two-chosen R turn [] place {c} e h = absurd (none-ne-some c e)
+  two-chosen R turn [] place {c} e h = absurd (none-some c e)
   two-chosen R turn (x ∷ xs) zero {c} e h =
       let same : chosen_of x xs ≡ c = cc in
       subst (λ (d : Chosen A). EachTwo R (d.one ∷ d.others)) same h
   two-chosen R turn (x ∷ xs) (suc place) e h =
-      let found = (map-eq-some_iff (λ (d : Chosen A). chosen_of d.one (x ∷ d.others)) (choose xs place)).0 e in
+      let found = mapped_some (λ (d : Chosen A). chosen_of d.one (x ∷ d.others)) (choose xs place) e in
       let rest = two-chosen R turn xs place found.1 h.1 in
       let here = every-chosen (R x) xs place found.1 h.0 in
       subst (λ (d : Chosen A). EachTwo R (d.one ∷ d.others)) found.2 ((turn _ _ here.0, rest.0), (here.1, rest.1))
 
 -- choosing among what a list is mapped to
 pub choose-map : {A B : Type 0} (f : A → B) (xs : List A) (place : ℕ) →
-    choose (map f xs) place ≡ Option.map (λ c. chosen_of (f c.one) (map f c.others)) (choose xs place)
+    choose (map f xs) place ≡ option_map (λ c. chosen_of (f c.one) (map f c.others)) (choose xs place)
 unfolding choose
 choose-map f [] place = refl
 choose-map f (x ∷ xs) zero = refl
-choose-map {A} {B} f (x ∷ xs) (suc place) = ap (Option.map (λ (d : Chosen B). chosen_of d.one (f x ∷ d.others))) (choose-map f xs place) ∙ go (choose xs place)
+choose-map {A} {B} f (x ∷ xs) (suc place) = ap (option_map (λ (d : Chosen B). chosen_of d.one (f x ∷ d.others))) (choose-map f xs place) ∙ go (choose xs place)
   where
     go : (o : Option (Chosen A)) →
-        Option.map (λ (d : Chosen B). chosen_of d.one (f x ∷ d.others)) (Option.map (λ (c : Chosen A). chosen_of (f c.one) (map f c.others)) o)
-        ≡ Option.map (λ (c : Chosen A). chosen_of (f c.one) (map f c.others)) (Option.map (λ (c : Chosen A). chosen_of c.one (x ∷ c.others)) o)
-    go none = refl
-    go (some c) = refl
+        option_map (λ (d : Chosen B). chosen_of d.one (f x ∷ d.others)) (option_map (λ (c : Chosen A). chosen_of (f c.one) (map f c.others)) o)
+        ≡ option_map (λ (c : Chosen A). chosen_of (f c.one) (map f c.others)) (option_map (λ (c : Chosen A). chosen_of c.one (x ∷ c.others)) o)
+    go None = refl
+    go (Some c) = refl
 
 -- what holds of what each element is mapped to
 pub every-mapped : {A B : Type 0} (f : A → B) (P : B → Type 0) (xs : List A) → Each (λ x. P (f x)) xs → Each P (map f xs)

@@ -1,13 +1,11 @@
 -- Allocate, allocate with a token, copy in and fill keep the invariant: each is one fresh block, and writes in that block alone. Assumes nothing.
 use Prim.Native.Nat.{ℕ, ◌+◌, ◌≤◌}
 use mathlib.Core.List.{List, ◌∷◌}
-use mathlib.Core.Option.{Option, none, some}
+use Rattle.std.specs.Prelude.{Option, None, Some, Ok}
 use mathlib.Core.Path.{◌≡◌, refl, sym, ap, subst}
 use lib.ListN.{length, replicate, length-replicate}
 use Rattle.arena.specs.Record.{held_of, holding}
-use Rattle.arena.specs.Refusals.{refused_by}
-use Rattle.calls.specs.declared.Given.{Given}
-use Rattle.calls.specs.declared.Given.TheVariants.{At}
+use Rattle.arena.specs.Refusals.{refused_by, Given}
 use Rattle.calls.specs.declared.Token.{Token}
 use Rattle.calls.specs.Allocate.{Taken, allocate_in, request_tests, allocate_of}
 use Rattle.calls.specs.Token.{token_for, token_given, with_token_of}
@@ -27,8 +25,8 @@ use Rattle.sequence.proofs.Invariant.{Invariant, settled, giving-keeps, unchange
 module _ (s : State) (inv : Invariant s) where
   -- a fresh block, and the bytes written in it
   fresh : (size align : ℕ) {put : List (Option ℕ)} {token : Option Token} (after : List ℕ) (t : Taken) →
-      refused_by (request_tests s.arena (length s.bytes) size align) ≡ none →
-      allocate_in s.arena.head (held_of s.arena) size align ≡ some t →
+      refused_by (request_tests s.arena (length s.bytes) size align) ≡ None →
+      allocate_in s.arena.head (held_of s.arena) size align ≡ Some t →
       Issued (held_of s.arena) token →
       OnlyIn s.bytes after t.offset (t.offset + size) →
       (t.offset + size ≤ length s.bytes → Holds after (block t.offset size align put token)) →
@@ -45,22 +43,22 @@ module _ (s : State) (inv : Invariant s) where
   allocate-keeps size align =
       giving-keeps s inv s.ledger _ _ _ _ (λ x e. refl)
       (λ t r o e.
-      fresh size align s.bytes t r o unissued (only_none s.bytes t.offset (t.offset + size)) (holds-unknown s.bytes t.offset size align none))
+      fresh size align s.bytes t r o unissued (only_none s.bytes t.offset (t.offset + size)) (holds-unknown s.bytes t.offset size align None))
 
   -- the token of a served call is the one that the chunks before it issue
-  token-issued : {offset : ℕ} (g : Given) → g ≡ At offset → Issued (held_of s.arena) (some (token_given g (token_for (held_of s.arena))))
+  token-issued : {offset : ℕ} (g : Given) → g ≡ Ok offset → Issued (held_of s.arena) (Some (token_given g (token_for (held_of s.arena))))
   unfolding token_given
-  token-issued g e = subst (λ (x : Given). Issued (held_of s.arena) (some (token_given x (token_for (held_of s.arena))))) (sym e) issued
+  token-issued g e = subst (λ (x : Given). Issued (held_of s.arena) (Some (token_given x (token_for (held_of s.arena))))) (sym e) issued
 
   pub token-keeps : (size align : ℕ) → Invariant (step s (with_token size align))
   unfolding step with_token_of allocate_of
   token-keeps size align =
-      giving-keeps s inv s.ledger s.bytes (λ offset. block offset size align (unknown size) (some (with_token_of s.arena (length s.bytes) size align).token))
+      giving-keeps s inv s.ledger s.bytes (λ offset. block offset size align (unknown size) (Some (with_token_of s.arena (length s.bytes) size align).token))
       _ _ (λ x e. refl)
       (λ t r o e.
       fresh size align s.bytes t r o (token-issued (allocate_of s.arena (length s.bytes) size align).answer e)
       (only_none s.bytes t.offset (t.offset + size))
-      (holds-unknown s.bytes t.offset size align (some (with_token_of s.arena (length s.bytes) size align).token)))
+      (holds-unknown s.bytes t.offset size align (Some (with_token_of s.arena (length s.bytes) size align).token)))
 
   pub copy-keeps : (source : List ℕ) (align : ℕ) → Invariant (step s (copy_in source align))
   unfolding step copy_in_bytes allocate_of
@@ -69,17 +67,17 @@ module _ (s : State) (inv : Invariant s) where
       (λ t r o e.
       let copied = copy-in-copies s.arena s.bytes align t.offset source e in
       fresh (length source) align (copy_in_bytes s.arena s.bytes source align) t r o unissued copied.only
-      (λ l. holds-known t.offset align source none copied))
+      (λ l. holds-known t.offset align source None copied))
 
   -- a fill is a copy of one byte, again and again
   filled : {after : List ℕ} (size align value at : ℕ) → Copied s.bytes after at (replicate size value) →
-      OnlyIn s.bytes after at (at + size) × Holds after (block at size align (replicate size (some value)) none)
+      OnlyIn s.bytes after at (at + size) × Holds after (block at size align (replicate size (Some value)) None)
   filled {after} size align value at copied =
       let long : length (replicate size value) ≡ size = length-replicate size value in (
         subst (λ (n : ℕ). OnlyIn s.bytes after at (at + n)) long copied.only,
-        subst (λ (n : ℕ). Holds after (block at n align (replicate size (some value)) none)) long
-            (subst (λ (put : List (Option ℕ)). Holds after (block at (length (replicate size value)) align put none)) (known_same size value)
-            (holds-known at align (replicate size value) none copied)),
+        subst (λ (n : ℕ). Holds after (block at n align (replicate size (Some value)) None)) long
+            (subst (λ (put : List (Option ℕ)). Holds after (block at (length (replicate size value)) align put None)) (known_same size value)
+            (holds-known at align (replicate size value) None copied)),
       )
 
   pub fill-keeps : (size align value : ℕ) → Invariant (step s (fill size align value))

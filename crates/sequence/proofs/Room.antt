@@ -5,7 +5,9 @@ use native.Mathlib.Nat.{le_refl}
 use native.Mathlib.Omega.{arith}
 use mathlib.Core.List.{List}
 use mathlib.Core.Logic.{inl, inr, ◌↔◌, ⊎_elim}
-use mathlib.Core.Option.{Option, none, some, none-ne-some, some-ne-none}
+use Rattle.std.specs.Prelude.{Option, None, Some}
+use Rattle.std.proofs.lemmas.Option.{none-some}
+use Rattle.rounding.proofs.Optional.{some-none}
 use mathlib.Core.Path.{◌≡◌, refl, sym, ◌∙◌}
 use Rattle.rounding.specs.Every.{Each}
 use Rattle.arena.specs.declared.Arena.{Arena}
@@ -29,65 +31,65 @@ abbrev Other : Refusal → Type 0
 Other r = (0 < number_of r) × (number_of r < 8)
 
 module _ (a : Arena) (ts : List Test) (other : Each (λ t. Other t.refusal) ts) where
-  room-when : (o : Option Taken) (current rung : Type 0) → (refused_by ts ≡ none → (o ≡ none) ↔ ((¬ current) × (¬ rung))) →
+  room-when : (o : Option Taken) (current rung : Type 0) → (refused_by ts ≡ None → (o ≡ None) ↔ ((¬ current) × (¬ rung))) →
       RoomExactlyWhen (given (refused_by ts) a o).answer current rung
   unfolding given
   room-when o current rung exactly = go (refused_by ts) refl o exactly
     where
-      go : (r : Option Refusal) → refused_by ts ≡ r → (p : Option Taken) → (r ≡ none → (p ≡ none) ↔ ((¬ current) × (¬ rung))) →
+      go : (r : Option Refusal) → refused_by ts ≡ r → (p : Option Taken) → (r ≡ None → (p ≡ None) ↔ ((¬ current) × (¬ rung))) →
           RoomExactlyWhen (given r a p).answer current rung
-      go (some x) e p h otherwise =
+      go (Some x) e p h otherwise =
           let number = refused-one Other ts other e in
           absurd (⊎_elim (λ z. omega arith) (λ z. omega arith) otherwise)
-      go none e none h otherwise = ((λ z. (h refl).0 refl), (λ z. refl))
-      go none e (some t) h otherwise = ((λ z. absurd (omega arith)), (λ z. absurd (some-ne-none t ((h refl).1 z))))
+      go None e None h otherwise = ((λ z. (h refl).0 refl), (λ z. refl))
+      go None e (Some t) h otherwise = ((λ z. absurd (omega arith)), (λ z. absurd (some-none t ((h refl).1 z))))
 
-  never-when : (o : Option Taken) → (refused_by ts ≡ none → o ≡ none → ⊥) → NeverRoom (given (refused_by ts) a o).answer
+  never-when : (o : Option Taken) → (refused_by ts ≡ None → o ≡ None → ⊥) → NeverRoom (given (refused_by ts) a o).answer
   unfolding given
   never-when o something = go (refused_by ts) refl o something
     where
-      go : (r : Option Refusal) → refused_by ts ≡ r → (p : Option Taken) → (r ≡ none → p ≡ none → ⊥) → NeverRoom (given r a p).answer
-      go (some x) e p h z =
+      go : (r : Option Refusal) → refused_by ts ≡ r → (p : Option Taken) → (r ≡ None → p ≡ None → ⊥) → NeverRoom (given r a p).answer
+      go (Some x) e p h z =
           let number = refused-one Other ts other e in
           omega arith
-      go none e none h z = h refl refl
-      go none e (some t) h z = omega arith
+      go None e None h z = h refl refl
+      go None e (Some t) h z = omega arith
 
-nothing : {A : Type 0} (o : Option A) → ((x : A) → o ≡ some x → ⊥) → o ≡ none
-nothing none h = refl
-nothing (some x) h = absurd (h x refl)
+nothing : {A : Type 0} (o : Option A) → ((x : A) → o ≡ Some x → ⊥) → o ≡ None
+nothing None h = refl
+nothing (Some x) h = absurd (h x refl)
 
 module _ (a : Arena) (s : Standing a.head (held_of a)) where
   fresh-when : {lent : ℕ} (size align : ℕ) → Request a lent size align →
-      (allocate_in a.head (held_of a) size align ≡ none) ↔ ((¬ CurrentTakes a size align) × (¬ RungTakes a size align))
+      (allocate_in a.head (held_of a) size align ≡ None) ↔ ((¬ CurrentTakes a size align) × (¬ RungTakes a size align))
   fresh-when size align request = (none_left, none_found)
     where
-      none_left : allocate_in a.head (held_of a) size align ≡ none → (¬ CurrentTakes a size align) × (¬ RungTakes a size align)
+      none_left : allocate_in a.head (held_of a) size align ≡ None → (¬ CurrentTakes a size align) × (¬ RungTakes a size align)
       none_left e =
           let no-rung = nothing-from-rungs s size align request.align_allowed.power request.size_bound e in (
-            (λ takes. none-ne-some takes.0 (sym (nothing-from-current s size align e) ∙ takes.1)),
-            (λ takes. none-ne-some takes.1 (sym (no-rung takes.0 takes.2) ∙ takes.3)),
+            (λ takes. none-some takes.0 (sym (nothing-from-current s size align e) ∙ takes.1)),
+            (λ takes. none-some takes.1 (sym (no-rung takes.0 takes.2) ∙ takes.3)),
           )
 
-      none_found : (¬ CurrentTakes a size align) × (¬ RungTakes a size align) → allocate_in a.head (held_of a) size align ≡ none
+      none_found : (¬ CurrentTakes a size align) × (¬ RungTakes a size align) → allocate_in a.head (held_of a) size align ≡ None
       none_found (no-current, no-rung) =
           nothing-allocates s size align (nothing _ (λ t e. no-current (t, e)))
           (λ base rung. nothing _ (λ c e. no-rung (base, c, rung, e)))
 
   module _ (offset old old_align new new_align : ℕ) where
     grown-when : {lent : ℕ} → Request a lent new new_align →
-        (grow_in a.head (held_of a) offset old old_align new new_align ≡ none) ↔ ((¬ CurrentGrows a offset old old_align new new_align) × (¬ RungTakes a new new_align))
+        (grow_in a.head (held_of a) offset old old_align new new_align ≡ None) ↔ ((¬ CurrentGrows a offset old old_align new new_align) × (¬ RungTakes a new new_align))
     grown-when request = (none_left, none_found)
       where
-        none_left : grow_in a.head (held_of a) offset old old_align new new_align ≡ none →
+        none_left : grow_in a.head (held_of a) offset old old_align new new_align ≡ None →
             (¬ CurrentGrows a offset old old_align new new_align) × (¬ RungTakes a new new_align)
         none_left e =
             let (in_place, afresh) = grow-nothing a.head (held_of a) offset old old_align new new_align e in
             let (no-current, no-rung) = (fresh-when new new_align request).0 afresh in
-            (⊎_elim (λ takes. none-ne-some takes.0 (sym in_place ∙ takes.1)) no-current, no-rung)
+            (⊎_elim (λ takes. none-some takes.0 (sym in_place ∙ takes.1)) no-current, no-rung)
 
         none_found : (¬ CurrentGrows a offset old old_align new new_align) × (¬ RungTakes a new new_align) →
-            grow_in a.head (held_of a) offset old old_align new new_align ≡ none
+            grow_in a.head (held_of a) offset old old_align new new_align ≡ None
         none_found (no-current, no-rung) =
             nothing-grows a.head (held_of a) offset old old_align new new_align (nothing _ (λ t e. no-current (inl (t, e))))
             ((fresh-when new new_align request).1 ((λ takes. no-current (inr takes)), no-rung))

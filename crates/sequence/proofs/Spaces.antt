@@ -4,7 +4,7 @@ use Prim.Native.Nat.{ℕ, suc, ◌+◌, ◌≤◌, ◌<◌, ◌∣◌}
 use native.Mathlib.Omega.{arith}
 use mathlib.Core.List.{List, ◌∷◌}
 use mathlib.Core.Logic.{⊎_elim}
-use mathlib.Core.Option.{Option, none, some}
+use Rattle.std.specs.Prelude.{Option, None, Some}
 use mathlib.Core.Path.{◌≡◌}
 use lib.ListN.{length}
 use Rattle.rounding.specs.Every.{Each}
@@ -40,9 +40,9 @@ pub record Fits (minimum start end pointer offset size top : ℕ) : Type 0 where
 
 -- the token of a block in the chunk that was taken as number k: it says k and the top; or one chunk less, and then the top is the chunk's end
 pub data TokenFits (k end top : ℕ) : Option Token → Type 0 where
-  no-token : TokenFits k end top none
-  same-chunk : {t : Token} → t.count ≡ k → t.pointer ≡ top → TokenFits k end top (some t)
-  new-chunk : {t : Token} → suc t.count ≡ k → top ≡ end → TokenFits k end top (some t)
+  no-token : TokenFits k end top None
+  same-chunk : {t : Token} → t.count ≡ k → t.pointer ≡ top → TokenFits k end top (Some t)
+  new-chunk : {t : Token} → suc t.count ≡ k → top ≡ end → TokenFits k end top (Some t)
 
 pub record In (minimum k start end pointer offset size top : ℕ) (token : Option Token) : Type 0 where
   pub fits : Fits minimum start end pointer offset size top

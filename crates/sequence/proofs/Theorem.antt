@@ -4,11 +4,11 @@ use native.Mathlib.Omega.{arith}
 use mathlib.Core.Bool.{Bool, true, false, not, cond, ◌&&◌, ◌||◌}
 use mathlib.Core.List.{List}
 use mathlib.Core.Logic.{inl, inr}
-use mathlib.Core.Option.{Option, none, some}
 use mathlib.Core.Path.{◌≡◌, refl, sym, ap, subst, ◌∙◌}
 use lib.Dec.{leb, ltb, eqb}
 use lib.ListN.{length}
 use borrow.Author.Tests.{le-ltb, le-leb, eqb-true}
+use Rattle.std.specs.Prelude.{Option, None as none, Some as some}
 use Rattle.rounding.specs.Every.{Each, any}
 use Rattle.rounding.specs.Round.{multiple}
 use Rattle.rounding.proofs.Tests.{and_both, or_left, or_right, or-neither, true-not}

@@ -9,8 +9,6 @@ use mathlib.Core.Path.{◌≡◌, refl}
 use lib.Dec.{leb}
 use lib.ListN.{length}
 use borrow.Author.Tests.{leb-true}
-use Rattle.arena.specs.declared.Answer.{Answer}
-use Rattle.arena.specs.declared.Answer.TheVariants.{Done, Refused}
 use Rattle.arena.specs.Record.{held_of}
 use Rattle.calls.specs.Bytes.{written}
 use Rattle.calls.specs.Write.{lend_of}
@@ -21,6 +19,8 @@ use Rattle.sequence.proofs.Keeping.{holds-noted}
 use Rattle.sequence.proofs.Spaces.{Space, space_of}
 use Rattle.sequence.proofs.Moves.{Good, reseat}
 use Rattle.sequence.proofs.Invariant.{Invariant, lives, block-keeps}
+use Rattle.arena.specs.Refusals.{Answer}
+use Rattle.std.specs.Prelude.{Err, Ok}
 
 module _ (s : State) (inv : Invariant s) where
   written_keeps : (from : ℕ) (new : List ℕ) (u : Space) (rest : List Space) → Good s.arena.head (held_of s.arena) s.bytes (u ∷ rest) →
@@ -54,8 +54,8 @@ module _ (s : State) (inv : Invariant s) where
 
   lent-keeps : (answer : Answer) (after : State) → Invariant after → Invariant (if_lent answer s after)
   unfolding if_lent
-  lent-keeps Done after i = i
-  lent-keeps (Refused r) after i = inv
+  lent-keeps (Ok u) after i = i
+  lent-keeps (Err r) after i = inv
 
   pub lend-keeps : (place from : ℕ) (new : List ℕ) → Invariant (step s (lend place from new))
   unfolding step

@@ -1,11 +1,9 @@
 -- Demand 3: what holds in every state of every sequence of calls, each sentence of the user's beside the definition that says it.
-use Rattle.std.specs.Prelude.{ℕ, ◌+◌, ◌≤◌, ◌<◌, ◌≡◌, true, false, List, [], ◌∷◌, ◌⊎◌, length, get_or}
+use Rattle.std.specs.Prelude.{ℕ, ◌+◌, ◌≤◌, ◌<◌, ◌≡◌, true, false, List, [], ◌∷◌, ◌⊎◌, length, get_or, Ok, Option, None as none, Some as some}
 use Rattle.std.specs.Int.{◌∣◌}
-use Rattle.std.proofs.Math.Option.{Option, none, some}
 use Rattle.rounding.specs.Every.{Each}
 use Rattle.arena.specs.declared.Arena.{Arena}
 use Rattle.arena.specs.declared.Chunk.{Chunk}
-use Rattle.arena.specs.declared.Answer.TheVariants.{Done}
 use Rattle.arena.specs.Numbers.{places}
 use Rattle.arena.specs.Record.{end_of, held_of}
 use Rattle.arena.specs.Sound.{sound_of}
@@ -81,6 +79,6 @@ pub record Demand (s : State) : Type 0 where
 abbrev pub EverySequence : Type 0
 EverySequence =
     (minimum capacity : ℕ) (bytes : List ℕ) →
-    (created_of (length bytes) minimum capacity).answer ≡ Done →
+    (created_of (length bytes) minimum capacity).answer ≡ (Ok tt) →
     (calls : List Call) →
     Demand (run (created minimum capacity bytes) calls)

@@ -1,9 +1,7 @@
 -- What "not refused otherwise" leaves out, so that no arena meets demand 3 by refusing: in every state of every sequence a call that asks for what document
 -- 01 allows gives a block or answers ROOM, and a call that only ends or lends a live block is done.
-use Rattle.std.specs.Prelude.{ℕ, ◌≤◌, ◌≡◌, true}
-use Rattle.std.proofs.Math.Option.{Option, none, some}
+use Rattle.std.specs.Prelude.{ℕ, ◌≤◌, ◌≡◌, true, Option, None, Some, Ok}
 use Rattle.arena.specs.declared.Arena.{Arena}
-use Rattle.arena.specs.declared.Answer.TheVariants.{Done}
 use Rattle.arena.specs.Numbers.{most}
 use Rattle.arena.specs.Sound.{allowed_align}
 use Rattle.calls.specs.declared.Token.{Token}
@@ -27,8 +25,8 @@ pub record Heard (a : Arena) (lent : ℕ) : Type 0 where
 
 -- a block without a token has nothing to cancel
 abbrev pub CancelDone : Arena → ℕ → Option Token → Type 0
-CancelDone a offset none = Unit {0}
-CancelDone a offset (some token) = (cancel_of a offset token).answer ≡ Done
+CancelDone a offset None = Unit {0}
+CancelDone a offset (Some token) = (cancel_of a offset token).answer ≡ (Ok tt)
 
 pub record HeardOfBlock (a : Arena) (lent : ℕ) (b : Live) : Type 0 where
   pub of_grow : (new new_align : ℕ) → Allowed new new_align → b.size ≤ new →
@@ -36,6 +34,6 @@ pub record HeardOfBlock (a : Arena) (lent : ℕ) (b : Live) : Type 0 where
   pub of_shrink : (new new_align : ℕ) → Allowed new new_align → new ≤ b.size →
       NotRefusedOtherwise (shrink_of a lent b.offset b.size b.align new new_align).answer
   pub of_resize : (new : ℕ) → new ≤ most → NotRefusedOtherwise (resize_of a lent b.offset b.size b.align new).answer
-  pub of_free : (free_of a b.offset b.size b.align).answer ≡ Done
+  pub of_free : (free_of a b.offset b.size b.align).answer ≡ (Ok tt)
   pub of_cancel : CancelDone a b.offset b.token
-  pub of_lend : lend_of a lent b.offset b.size b.align ≡ Done
+  pub of_lend : lend_of a lent b.offset b.size b.align ≡ (Ok tt)

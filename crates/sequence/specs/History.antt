@@ -1,16 +1,10 @@
 -- Demand 3, "any sequence of calls from a new arena": a state, the calls, and the state after a list of them. A call names a live block by its
 -- place in the ledger, so that every list of calls is such a sequence. Each step cites the definition that the call's contract cites.
-use Rattle.std.specs.Prelude.{ℕ, ◌+◌, cond, List, [], ◌∷◌, length, replicate, leb}
-use Rattle.std.proofs.Math.Option.{Option, none, some}
+use Rattle.std.specs.Prelude.{ℕ, ◌+◌, cond, List, [], ◌∷◌, length, replicate, leb, Option, None, Some, Err, Ok, ⊤}
 use Rattle.arena.specs.declared.Arena.{Arena}
-use Rattle.arena.specs.declared.Answer.{Answer}
-use Rattle.arena.specs.declared.Answer.TheVariants.{Done, Refused}
 use Rattle.arena.specs.declared.Outcome.{Outcome}
 use Rattle.arena.specs.Creation.{created_of, set_limit_of, no_limit_of, reset_of}
-use Rattle.calls.specs.declared.Given.{Given}
-use Rattle.calls.specs.declared.Given.TheVariants.{At, Refused as NotGiven}
 use Rattle.calls.specs.declared.Token.{Token}
-use Rattle.calls.specs.declared.Allocation.{Allocation}
 use Rattle.calls.specs.Bytes.{written}
 use Rattle.calls.specs.Allocate.{allocate_of}
 use Rattle.calls.specs.Free.{free_of}
@@ -20,6 +14,7 @@ use Rattle.calls.specs.Resize.{resize_of, resize_bytes}
 use Rattle.calls.specs.Token.{with_token_of, cancel_of}
 use Rattle.calls.specs.Write.{copy_in_bytes, fill_bytes, lend_of}
 use Rattle.sequence.specs.Ledger.{Live, block, unknown, known, kept, noted, Chosen, choose}
+use Rattle.arena.specs.Refusals.{Allocation, Answer, Given}
 
 -- the record, the lent region, and the live blocks, the one last touched first
 pub record State : Type 0 where
@@ -48,12 +43,12 @@ pub data Call : Type 0 where
 
 -- the ledger after a call that gives out a block, and after one that does not: as it was, where the call is refused
 unfoldable pub if_given : Given → List Live → (ℕ → List Live) → List Live
-if_given (At offset) before after = after offset
-if_given (NotGiven r) before after = before
+if_given (Ok offset) before after = after offset
+if_given (Err r) before after = before
 
 unfoldable pub if_done : Answer → List Live → List Live → List Live
-if_done Done before after = after
-if_done (Refused r) before after = before
+if_done (Ok u) before after = after
+if_done (Err r) before after = before
 
 -- a call that gives out a block: unless it is refused, the new block is live beside the others
 abbrev pub giving : State → List Live → Allocation → List ℕ → (ℕ → Live) → State
@@ -61,14 +56,14 @@ giving s others out bytes new =
     state_of out.arena bytes (if_given out.answer s.ledger (λ offset. new offset ∷ others))
 
 -- a call that gives out none: unless it is refused, these blocks are live
-abbrev pub leaving : State → Outcome → List Live → State
+abbrev pub leaving : State → Outcome ⊤ → List Live → State
 leaving s out others = state_of out.arena s.bytes (if_done out.answer s.ledger others)
 
 abbrev pub token_step : ℕ → ℕ → State → State
 token_step size align s =
     let out = with_token_of s.arena (length s.bytes) size align in
     state_of out.arena s.bytes
-    (if_given out.answer s.ledger (λ offset. block offset size align (unknown size) (some out.token) ∷ s.ledger))
+    (if_given out.answer s.ledger (λ offset. block offset size align (unknown size) (Some out.token) ∷ s.ledger))
 
 -- the block b is named, and the others are those beside it in the ledger
 abbrev pub free_step : State → Live → List Live → State
@@ -78,30 +73,30 @@ abbrev pub grow_step : ℕ → ℕ → State → Live → List Live → State
 grow_step new new_align s b others =
     giving s others (grow_of s.arena (length s.bytes) b.offset b.size b.align new new_align)
     (grow_bytes s.arena s.bytes b.offset b.size b.align new new_align)
-    (λ offset. block offset new new_align (kept b new none) none)
+    (λ offset. block offset new new_align (kept b new None) None)
 
 abbrev pub grow_zeroed_step : ℕ → ℕ → State → Live → List Live → State
 grow_zeroed_step new new_align s b others =
     giving s others (grow_of s.arena (length s.bytes) b.offset b.size b.align new new_align)
     (grow_zeroed_bytes s.arena s.bytes b.offset b.size b.align new new_align)
-    (λ offset. block offset new new_align (kept b new (some 0)) none)
+    (λ offset. block offset new new_align (kept b new (Some 0)) None)
 
 abbrev pub shrink_step : ℕ → ℕ → State → Live → List Live → State
 shrink_step new new_align s b others =
     giving s others (shrink_of s.arena (length s.bytes) b.offset b.size b.align new new_align)
     (shrink_bytes s.arena s.bytes b.offset b.size b.align new new_align)
-    (λ offset. block offset new new_align (kept b new none) none)
+    (λ offset. block offset new new_align (kept b new None) None)
 
 abbrev pub resize_step : ℕ → State → Live → List Live → State
 resize_step new s b others =
     giving s others (resize_of s.arena (length s.bytes) b.offset b.size b.align new)
     (resize_bytes s.arena s.bytes b.offset b.size b.align new)
-    (λ offset. block offset new b.align (kept b new none) none)
+    (λ offset. block offset new b.align (kept b new None) None)
 
 -- a block without a token has nothing to cancel
 unfoldable pub cancel_with : Option Token → State → Live → List Live → State
-cancel_with none s b others = s
-cancel_with (some token) s b others = leaving s (cancel_of s.arena b.offset token) others
+cancel_with None s b others = s
+cancel_with (Some token) s b others = leaving s (cancel_of s.arena b.offset token) others
 
 abbrev pub cancel_step : State → Live → List Live → State
 cancel_step s b others = cancel_with b.token s b others
@@ -116,8 +111,8 @@ write_step from new s b others =
 
 -- a block that isn't lent isn't written
 unfoldable pub if_lent : Answer → State → State → State
-if_lent Done before after = after
-if_lent (Refused r) before after = before
+if_lent (Ok u) before after = after
+if_lent (Err r) before after = before
 
 abbrev pub lend_step : ℕ → List ℕ → State → Live → List Live → State
 lend_step from new s b others =
@@ -125,8 +120,8 @@ lend_step from new s b others =
 
 -- the block at a place of the ledger; where no block is, nothing happens
 unfoldable pub on_chosen : Option (Chosen Live) → (State → Live → List Live → State) → State → State
-on_chosen none act s = s
-on_chosen (some c) act s = act s c.one c.others
+on_chosen None act s = s
+on_chosen (Some c) act s = act s c.one c.others
 
 abbrev pub on_block : ℕ → (State → Live → List Live → State) → State → State
 on_block place act s = on_chosen (choose s.ledger place) act s
@@ -134,14 +129,14 @@ on_block place act s = on_chosen (choose s.ledger place) act s
 unfoldable pub step : State → Call → State
 step s (allocate size align) =
     giving s s.ledger (allocate_of s.arena (length s.bytes) size align) s.bytes
-    (λ offset. block offset size align (unknown size) none)
+    (λ offset. block offset size align (unknown size) None)
 step s (with_token size align) = token_step size align s
 step s (copy_in source align) =
     giving s s.ledger (allocate_of s.arena (length s.bytes) (length source) align) (copy_in_bytes s.arena s.bytes source align)
-    (λ offset. block offset (length source) align (known source) none)
+    (λ offset. block offset (length source) align (known source) None)
 step s (fill size align value) =
     giving s s.ledger (allocate_of s.arena (length s.bytes) size align) (fill_bytes s.arena s.bytes size align value)
-    (λ offset. block offset size align (replicate size (some value)) none)
+    (λ offset. block offset size align (replicate size (Some value)) None)
 step s (free place) = on_block place free_step s
 step s (cancel place) = on_block place cancel_step s
 step s (grow place new new_align) = on_block place (grow_step new new_align) s

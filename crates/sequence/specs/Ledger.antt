@@ -1,10 +1,8 @@
 -- The ledger: what the owners know of their live blocks. It is kept from the owners' side, and never read back from the region.
-use Rattle.std.specs.Prelude.{ℕ, zero, suc, ◌+◌, ◌-◌, List, [], ◌∷◌, ◌++◌, map, length, take, drop, replicate}
-use Rattle.std.proofs.Math.Option
-use Rattle.std.proofs.Math.Option.{Option, none, some}
+use Rattle.std.specs.Prelude.{ℕ, zero, suc, ◌+◌, ◌-◌, List, [], ◌∷◌, ◌++◌, map, length, take, drop, replicate, Option, None, Some, option_map}
 use Rattle.calls.specs.declared.Token.{Token}
 
--- a live block as last given; what its owner put in each of its bytes, `none` where it never wrote; and its token, where it has one
+-- a live block as last given; what its owner put in each of its bytes, `None` where it never wrote; and its token, where it has one
 pub record Live : Type 0 where
   pub offset : ℕ
   pub size : ℕ
@@ -17,11 +15,11 @@ block offset size align put token = record { offset = offset; size = size; align
 
 -- the bytes of a new block: none is known
 abbrev pub unknown : ℕ → List (Option ℕ)
-unknown size = replicate size none
+unknown size = replicate size None
 
 -- bytes that the owner knows
 abbrev pub known : List ℕ → List (Option ℕ)
-known new = map some new
+known new = map Some new
 
 -- what a block that grows, shrinks or is resized keeps: its first bytes, as many as the new size has, and beyond the old size `fresh` ones
 unfoldable pub kept : Live → ℕ → Option ℕ → List (Option ℕ)
@@ -41,6 +39,6 @@ chosen_of one others = record { one = one; others = others }
 
 -- the one at this place; past the end of the list there is none
 unfoldable pub choose : {A : Type 0} → List A → ℕ → Option (Chosen A)
-choose [] place = none
-choose (x ∷ xs) zero = some (chosen_of x xs)
-choose (x ∷ xs) (suc place) = Option.map (λ c. chosen_of c.one (x ∷ c.others)) (choose xs place)
+choose [] place = None
+choose (x ∷ xs) zero = Some (chosen_of x xs)
+choose (x ∷ xs) (suc place) = option_map (λ c. chosen_of c.one (x ∷ c.others)) (choose xs place)

@@ -1,15 +1,12 @@
 -- Demand 3: "a call needing new room and not refused otherwise answers "no room" exactly when neither the current chunk nor any rung of the
 -- sizing ladder can take the request".
-use Rattle.std.specs.Prelude.{ℕ, ◌≤◌, ◌<◌, ◌≡◌, ◌⊎◌, ◌↔◌}
+use Rattle.std.specs.Prelude.{ℕ, ◌≤◌, ◌<◌, ◌≡◌, ◌⊎◌, ◌↔◌, Some, Err, Ok}
 use Rattle.std.specs.Int.{◌∣◌}
-use Rattle.std.proofs.Math.Option.{some}
 use Rattle.arena.specs.declared.Arena.{Arena}
 use Rattle.arena.specs.declared.Chunk.{Chunk}
 use Rattle.arena.specs.Record.{held_of}
-use Rattle.arena.specs.Refusals.{number_of}
+use Rattle.arena.specs.Refusals.{number_of, Given}
 use Rattle.arena.specs.Ladder.{Rung, rung_chunk}
-use Rattle.calls.specs.declared.Given.{Given}
-use Rattle.calls.specs.declared.Given.TheVariants.{At, Refused}
 use Rattle.calls.specs.Allocate.{Taken, current_gives, allocate_of}
 use Rattle.calls.specs.Grow.{grown_in_place, grow_of}
 use Rattle.calls.specs.Shrink.{shrink_of}
@@ -19,22 +16,22 @@ use Rattle.sequence.specs.Ledger.{Live}
 
 -- the number of a refusal, and 0 where a block is given
 abbrev pub number_given : Given → ℕ
-number_given (At offset) = 0
-number_given (Refused r) = number_of r
+number_given (Ok offset) = 0
+number_given (Err r) = number_of r
 
 -- "the current chunk can take the request", by the rule of allocate
 abbrev pub CurrentTakes : Arena → ℕ → ℕ → Type 0
-CurrentTakes a size align = (t : Taken) × (current_gives a.head.minimum (held_of a) size align ≡ some t)
+CurrentTakes a size align = (t : Taken) × (current_gives a.head.minimum (held_of a) size align ≡ Some t)
 
 -- "when either way, in place or afresh, fits in it"
 abbrev pub CurrentGrows : Arena → ℕ → ℕ → ℕ → ℕ → ℕ → Type 0
 CurrentGrows a offset old old_align new new_align =
-    ((t : Taken) × (grown_in_place a.head.minimum (held_of a) offset old old_align new new_align ≡ some t)) ⊎ CurrentTakes a new new_align
+    ((t : Taken) × (grown_in_place a.head.minimum (held_of a) offset old old_align new new_align ≡ Some t)) ⊎ CurrentTakes a new new_align
 
 -- "any rung of the sizing ladder can take the request": some rung is served
 abbrev pub RungTakes : Arena → ℕ → ℕ → Type 0
 RungTakes a size align =
-    (base : ℕ) × (c : Chunk) × Rung a.head (held_of a) size base × (rung_chunk a.head (held_of a) size align base ≡ some c)
+    (base : ℕ) × (c : Chunk) × Rung a.head (held_of a) size base × (rung_chunk a.head (held_of a) size align base ≡ Some c)
 
 -- "not refused otherwise": the call gives a block, or answers ROOM, which is number 8
 abbrev pub NotRefusedOtherwise : Given → Type 0

@@ -7,10 +7,10 @@ ghost use Rattle.arena.specs.Numbers.{most};
 ghost use Rattle.arena.specs.Sound.{allowed_align};
 
 use arena::creation::emptied;
-use arena::ladder::{NewChunk, climb, held_bytes, take_rung};
-use arena::placing::{Place, lowest_place};
+use arena::ladder::{climb, held_bytes, take_rung};
+use arena::placing::lowest_place;
 use arena::sizing::usable_size;
-use arena::sound::{is_allowed_align, is_sound};
+use arena::sound::is_allowed_align;
 use arena::{Arena, Chunk, Head};
 use std::io::Write;
 use std::{fmt, io};
@@ -56,50 +56,30 @@ fn ask_usable(base: usize, size: usize, align: usize) -> Option<Said> {
 
 // One rung, whether the ladder comes to it or not.
 fn ask_rung(a: Arena, base: usize, size: usize, align: usize) -> Option<Said> {
-    if !is_sound(a.head, &a.starts, &a.sizes, &a.pointers) {
-        return None;
-    }
+    let sound = a.sound()?;
     if Arena::MOST < base {
         return None;
     }
     if !is_request(size, align) {
         return None;
     }
-    let held = held_bytes(a.head, &a.starts, &a.sizes, &a.pointers);
-    let got = take_rung(
-        a.head,
-        &a.starts,
-        &a.sizes,
-        &a.pointers,
-        held,
-        size,
-        align,
-        base,
-    );
-    Some(match got {
-        NewChunk::Taken(c) => Said::Chunk(c),
-        NewChunk::Nothing => Said::Unserved(usable_size(base, size, align)),
+    let held = held_bytes(&sound.lent);
+    Some(match take_rung(&sound.lent, held, size, align, base) {
+        Some(c) => Said::Chunk(c),
+        None => Said::Unserved(usable_size(base, size, align)),
     })
 }
 
 fn ask_ladder(a: Arena, size: usize, align: usize) -> Option<Said> {
-    if !is_sound(a.head, &a.starts, &a.sizes, &a.pointers) {
-        return None;
-    }
+    let sound = a.sound()?;
     if !is_request(size, align) {
         return None;
     }
-    let got = climb(a.head, &a.starts, &a.sizes, &a.pointers, size, align);
-    Some(match got {
-        NewChunk::Taken(c) => Said::Chunk(c),
-        NewChunk::Nothing => Said::Nothing,
-    })
+    Some(climb(&sound.lent, size, align).map_or(Said::Nothing, Said::Chunk))
 }
 
 fn ask_place(a: Arena, n: usize, multiple: usize) -> Option<Said> {
-    if !is_sound(a.head, &a.starts, &a.sizes, &a.pointers) {
-        return None;
-    }
+    let sound = a.sound()?;
     if Arena::MOST < n {
         return None;
     }
@@ -109,11 +89,7 @@ fn ask_place(a: Arena, n: usize, multiple: usize) -> Option<Said> {
     if Arena::LARGEST_ALIGN < multiple {
         return None;
     }
-    let got = lowest_place(a.head, &a.starts, &a.sizes, &a.pointers, multiple, n);
-    Some(match got {
-        Place::At(at) => Said::Number(at),
-        Place::Nowhere => Said::Nothing,
-    })
+    Some(lowest_place(&sound.lent, multiple, n).map_or(Said::Nothing, Said::Number))
 }
 
 fn show_said<W: Write>(out: &mut W, said: Option<Said>) -> io::Result<()> {

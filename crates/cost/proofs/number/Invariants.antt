@@ -2,5 +2,5 @@
 use Prim.Native.Nat.{◌<◌}
 use Rattle.cost.proofs.number.Given as goal
 
-abbrev pub invariant-loop-i : goal.invariant-loop-i
-invariant-loop-i l = l.n < 1000000000
+abbrev pub invariant-loop-d : goal.invariant-loop-d
+invariant-loop-d l = l.n < 1000000000

@@ -2,14 +2,11 @@
 use Prim.Native.Nat.{ℕ, ◌-◌, ◌%◌}
 use mathlib.Core.Path.{◌≡◌}
 use lib.Bits.{bit_and, and_mask}
-use Rattle.rounding.proofs.Powers.{Power, one-bit-power, power-positive}
+use Rattle.rounding.proofs.Powers.{Power, one-bit-power}
 use Rattle.rounding.proofs.remainder_by_power.Goals as goal
 
 masked : (n : ℕ) {m : ℕ} → Power m → bit_and n (m - 1) ≡ n % m
 masked n p = rw p.value (and_mask n p.exponent)
-
-pub overflow_sub-result : goal.overflow_sub-result
-overflow_sub-result c = power-positive (one-bit-power c.args.power c.requires)
 
 pub returns : goal.returns
 returns c = masked c.args.n (one-bit-power c.args.power c.requires)

@@ -1,8 +1,8 @@
 -- `arena::creation::refused_creation` meets its contract. Assumes nothing.
-use Rattle.arena.specs.declared.Answer.TheVariants.{Refused}
+use Rattle.std.specs.Prelude.{Ok, Err}
 use Rattle.arena.specs.Creation.{refused_creation}
 use Rattle.arena.proofs.creation.refused_creation.Goals as goal
 
 pub returns : goal.returns
 unfolding refused_creation
-returns c = λ i. record { answer = Refused c.args.r; arena = c.emptied-none.ensures i }
+returns c = λ i. record { answer = Err c.args.r; arena = c.emptied-none.ensures i }

@@ -6,10 +6,10 @@ use native.Mathlib.Nat.{le_trans}
 use mathlib.Core.Path.{◌≡◌, sym, ◌∙◌, ap}
 use Rattle.arena.specs.Record.{chunks_of}
 use Rattle.arena.specs.Ladder.{held_bytes, tried, first_base}
-use Rattle.arena.specs.Inner.{new_chunk_of}
-use Rattle.arena.proofs.Cases.{chunk-taken, chunk-nothing}
+use Rattle.arena.specs.Inner.{lent_of}
 use Rattle.arena.proofs.Rungs.{climb-starts, climb-bound, climb-served, climb-out, climb-ends, climb-on, first-base-bound}
 use Rattle.arena.proofs.ladder.climb.Goals as goal
+use Rattle.arena.specs.Record.{held_of}
 
 pub held_bytes-held-requires : goal.held_bytes-held-requires
 held_bytes-held-requires c = c.requires.ready
@@ -19,50 +19,38 @@ first_base-base-requires c = c.requires.ready
 
 pub loop-h-init : goal.loop-h-init
 loop-h-init c =
-    let a = c.args in
-    rw c.first_base-base.ensures (climb-starts a.h (chunks_of a.starts.now a.sizes.now a.pointers.now a.h.count) a.size a.align)
+    rw c.first_base-base.ensures (climb-starts c.args.a.now.head (held_of (lent_of c.args.a.now)) c.args.size c.args.align)
 
-pub take_rung-got-requires : goal.take_rung-got-requires
-take_rung-got-requires c =
-    let first-bound : (let a = c.args in first_base (chunks_of a.starts.now a.sizes.now a.pointers.now a.h.count) a.size ≤ 2 ^ 31) = first-base-bound _ c.requires.ready.inside c.requires.ready.region_bound c.requires.size_le_most.0 in
+pub take_rung-requires : goal.take_rung-requires
+take_rung-requires c =
+    let first-bound : (first_base (held_of (lent_of c.args.a.now)) c.args.size ≤ 2 ^ 31) = first-base-bound _ c.requires.ready.inside c.requires.ready.region_bound c.requires.size_le_most.0 in
     record {
       ready = c.requires.ready;
       size_le_most = (c.requires.size_le_most.0, c.requires.size_le_most.1, le_trans (climb-bound _ _ _ _ c.loop-h.invariant) first-bound);
       held_value = c.held_bytes-held.ensures;
     }
 
-pub returns-in-Taken : goal.returns-in-Taken
-unfolding new_chunk_of
-returns-in-Taken c =
-    let tested : (let a = c.args in c.is_tried.result ≡ tried a.h (held_bytes (chunks_of a.starts.now a.sizes.now a.pointers.now a.h.count)) a.size c.loop-h.base) = let a = c.args in
-    c.is_tried.ensures ∙ ap (λ (held : ℕ). tried a.h held a.size c.loop-h.base) c.held_bytes-held.ensures in
-    sym
-    (ap new_chunk_of
-    (climb-served _ _ _ _ c.loop-h.invariant (sym tested ∙ c.loop-h-test.true) (chunk-taken _ (sym c.in-Taken.is ∙ c.take_rung-got.ensures))))
+pub returns-in-Some : goal.returns-in-Some
+returns-in-Some c =
+    let tested : (c.is_tried.result ≡ tried c.args.a.now.head (held_bytes (held_of (lent_of c.args.a.now))) c.args.size c.loop-h.base) = c.is_tried.ensures ∙ ap (λ (held : ℕ). tried c.args.a.now.head held c.args.size c.loop-h.base) c.held_bytes-held.ensures in
+    sym (climb-served _ _ _ _ c.loop-h.invariant (sym tested ∙ c.loop-h-test.true) (sym c.take_rung.ensures ∙ c.in-Some.is))
 
 pub returns-then-base-eq0 : goal.returns-then-base-eq0
-unfolding new_chunk_of
 returns-then-base-eq0 c =
-    let tested : (let a = c.args in c.is_tried.result ≡ tried a.h (held_bytes (chunks_of a.starts.now a.sizes.now a.pointers.now a.h.count)) a.size c.loop-h.base) = let a = c.args in
-    c.is_tried.ensures ∙ ap (λ (held : ℕ). tried a.h held a.size c.loop-h.base) c.held_bytes-held.ensures in
-    sym
-    (ap new_chunk_of
-    (climb-ends _ _ _ _ c.loop-h.invariant c.if-base-eq0.true (sym tested ∙ c.loop-h-test.true) (chunk-nothing _ (sym c.in_default.is ∙ c.take_rung-got.ensures))))
+    let tested : (c.is_tried.result ≡ tried c.args.a.now.head (held_bytes (held_of (lent_of c.args.a.now))) c.args.size c.loop-h.base) = c.is_tried.ensures ∙ ap (λ (held : ℕ). tried c.args.a.now.head held c.args.size c.loop-h.base) c.held_bytes-held.ensures in
+    sym (climb-ends _ _ _ _ c.loop-h.invariant c.if-base-eq0.true (sym tested ∙ c.loop-h-test.true) (sym c.take_rung.ensures ∙ c.in_default.is))
 
 pub loop-h-smaller : goal.loop-h-smaller
 loop-h-smaller c = omega (arith, c.if-base-eq0.false)
 
 pub loop-h-preserved : goal.loop-h-preserved
 loop-h-preserved c =
-    let tested : (let a = c.args in c.is_tried.result ≡ tried a.h (held_bytes (chunks_of a.starts.now a.sizes.now a.pointers.now a.h.count)) a.size c.loop-h.base) = let a = c.args in
-    c.is_tried.ensures ∙ ap (λ (held : ℕ). tried a.h held a.size c.loop-h.base) c.held_bytes-held.ensures in
-    let first-bound : (let a = c.args in first_base (chunks_of a.starts.now a.sizes.now a.pointers.now a.h.count) a.size ≤ 2 ^ 31) = first-base-bound _ c.requires.ready.inside c.requires.ready.region_bound c.requires.size_le_most.0 in
+    let tested : (c.is_tried.result ≡ tried c.args.a.now.head (held_bytes (held_of (lent_of c.args.a.now))) c.args.size c.loop-h.base) = c.is_tried.ensures ∙ ap (λ (held : ℕ). tried c.args.a.now.head held c.args.size c.loop-h.base) c.held_bytes-held.ensures in
+    let first-bound : (first_base (held_of (lent_of c.args.a.now)) c.args.size ≤ 2 ^ 31) = first-base-bound _ c.requires.ready.inside c.requires.ready.region_bound c.requires.size_le_most.0 in
     climb-on _ _ _ _ c.loop-h.invariant (omega (arith, first-bound)) c.if-base-eq0.false (sym tested ∙ c.loop-h-test.true)
-    (chunk-nothing _ (sym c.in_default.is ∙ c.take_rung-got.ensures))
+    (sym c.take_rung.ensures ∙ c.in_default.is)
 
 pub returns : goal.returns
-unfolding new_chunk_of
 returns c =
-    let tested : (let a = c.args in c.is_tried.result ≡ tried a.h (held_bytes (chunks_of a.starts.now a.sizes.now a.pointers.now a.h.count)) a.size c.loop-h.base) = let a = c.args in
-    c.is_tried.ensures ∙ ap (λ (held : ℕ). tried a.h held a.size c.loop-h.base) c.held_bytes-held.ensures in
-    sym (ap new_chunk_of (climb-out _ _ _ _ c.loop-h.invariant (sym tested ∙ c.loop-h-test.false)))
+    let tested : (c.is_tried.result ≡ tried c.args.a.now.head (held_bytes (held_of (lent_of c.args.a.now))) c.args.size c.loop-h.base) = c.is_tried.ensures ∙ ap (λ (held : ℕ). tried c.args.a.now.head held c.args.size c.loop-h.base) c.held_bytes-held.ensures in
+    sym (climb-out _ _ _ _ c.loop-h.invariant (sym tested ∙ c.loop-h-test.false))

@@ -5,7 +5,7 @@ use Rattle.arena.proofs.Rungs.{Climbed}
 use Rattle.arena.proofs.ladder.climb.Given as goal
 
 abbrev pub invariant-loop-h : goal.invariant-loop-h
-invariant-loop-h l = Climbed l.h (chunks_of l.starts l.sizes l.pointers l.h.count) l.size l.align l.base
+invariant-loop-h l = Climbed l.a.head (chunks_of l.a.starts.now l.a.sizes.now l.a.pointers.now l.a.head.count) l.size l.align l.base
 
 abbrev pub decreases-loop-h : goal.decreases-loop-h
 decreases-loop-h l = l.base

@@ -1,26 +1,28 @@
--- `arena::ladder::first_base` meets its contract: the last place, where there is one, is the current chunk's. Assumes nothing.
-use Prim.Native.Nat.{◌≤◌, ◌*◌, ◌-◌, max}
+-- `arena::ladder::first_base` meets its contract: the current chunk, where there is one, is the first of the held ones. Assumes nothing.
+use Prim.Native.Nat.{◌≤◌, ◌*◌, max}
 use native.Mathlib.Omega.{arith}
-use mathlib.Core.Path.{sym, ◌∙◌, ap}
-use lib.ListN.{get_or}
-use Rattle.arena.specs.Record.{past_of}
-use Rattle.arena.proofs.View.{chunks-at}
-use Rattle.arena.proofs.Rungs.{first-base-none, first-base-last}
+use mathlib.Core.Path.{◌≡◌, sym, ◌∙◌, ap}
+use Rattle.std.specs.Prelude.{Some}
+use Rattle.arena.specs.Record.{held_of}
+use Rattle.arena.specs.Inner.{lent_of, current_of}
+use Rattle.arena.proofs.Current.{none-current, current-is}
+use Rattle.arena.proofs.Rungs.{first-base-none, first-base-current, current-within}
 use Rattle.arena.proofs.ladder.first_base.Goals as goal
 
-pub returns-then-count-eq0 : goal.returns-then-count-eq0
-returns-then-count-eq0 c = c.larger-floor.ensures ∙ sym (first-base-none _ _ _ _ (omega arith))
+pub current-requires : goal.current-requires
+current-requires c = c.requires.count_bound
 
-pub overflow_mul-sizes : goal.overflow_mul-sizes
-overflow_mul-sizes c =
-    let a = c.args in
-    let ready = c.requires in
-    let here = chunks-at a.starts.now a.sizes.now a.pointers.now (λ d. past_of d ≤ a.h.region) {i = a.h.count - 1} (omega arith) ready.inside in
-    omega (arith, here, ready.region_bound)
+pub returns-in_default : goal.returns-in_default
+returns-in_default c =
+    c.max-floor.ensures ∙ sym (first-base-none _ _ (none-current _ (sym c.current.ensures ∙ c.in_default.is)))
+
+pub overflow_mul-c : goal.overflow_mul-c
+overflow_mul-c c =
+    let here = current-within _ c.requires.inside (current-is _ (sym c.current.ensures ∙ c.in-Some.is)) in
+    omega (arith, here, c.requires.region_bound)
 
 pub returns : goal.returns
 returns c =
-    let a = c.args in
-    c.larger.ensures
-    ∙ ap (max (2 * get_or a.sizes.now (a.h.count - 1) 0)) c.larger-floor.ensures
-    ∙ sym (first-base-last _ _ _ _ _ (omega arith))
+    c.max.ensures
+    ∙ ap (max (2 * c.in-Some.c.size)) c.max-floor.ensures
+    ∙ sym (first-base-current _ _ (current-is _ (sym c.current.ensures ∙ c.in-Some.is)))

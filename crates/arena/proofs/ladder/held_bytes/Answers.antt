@@ -1,15 +1,25 @@
 -- `arena::ladder::held_bytes` meets its contract. The invariant: what is counted is held in the places passed. Assumes nothing.
-use Prim.Native.Nat.{◌≤◌, zero-le}
+use Prim.Native.Nat.{ℕ, ◌≤◌, ◌<◌, zero-le}
 use native.Mathlib.Numerals.{add-one}
 use native.Mathlib.Omega.{arith}
-use mathlib.Core.Path.{◌≡◌, refl}
-use lib.ListN.{get_or}
-use Rattle.arena.specs.Record.{past_of, chunks_of}
+use mathlib.Core.List.{List}
+use mathlib.Core.Path.{◌≡◌, refl, sym, subst}
+use Rattle.arena.specs.declared.Head.{Head}
+use Rattle.arena.specs.declared.Chunk.{Chunk}
+use Rattle.arena.specs.Record.{past_of, chunk_at, chunks_of}
 use Rattle.arena.specs.Ladder.{held_bytes}
 use Rattle.arena.specs.Numbers.{most}
+use Rattle.arena.specs.Inner.{Ready}
 use Rattle.arena.proofs.View.{chunks-at}
 use Rattle.arena.proofs.Rungs.{held_more}
 use Rattle.arena.proofs.ladder.held_bytes.Goals as goal
+
+-- a held chunk is no longer than the largest region
+size-within : {h : Head} (starts sizes pointers : List ℕ) {i : ℕ} {c : Chunk} → Ready h (chunks_of starts sizes pointers h.count) → i < h.count
+    → c ≡ chunk_at starts sizes pointers i → c.size ≤ most
+size-within {h} starts sizes pointers {i} ready l e =
+    let here = chunks-at starts sizes pointers (λ d. past_of d ≤ h.region) {i = i} l ready.inside in
+    subst (λ (d : Chunk). d.size ≤ most) (sym e) (omega (arith, here, ready.region_bound))
 
 pub loop-i-init : goal.loop-i-init
 unfolding held_bytes chunks_of
@@ -17,24 +27,16 @@ loop-i-init c = (zero-le, refl, zero-le)
 
 pub overflow_add-held : goal.overflow_add-held
 overflow_add-held c =
-    let size-within : get_or c.args.sizes.now c.loop-i.i 0 ≤ most = let a = c.args in
-    let ready = c.requires in
-    let here = chunks-at a.starts.now a.sizes.now a.pointers.now (λ d. past_of d ≤ a.h.region) {i = c.loop-i.i} (omega arith) ready.inside in
-    omega (arith, here, ready.region_bound) in
-    omega (arith, size-within, c.requires.count_bound)
+    omega (arith, size-within _ _ _ c.requires c.loop-i-test.true c.chunk_at-held.ensures, c.requires.count_bound)
 
 pub loop-i-preserved : goal.loop-i-preserved
 loop-i-preserved c =
-    let size-within : get_or c.args.sizes.now c.loop-i.i 0 ≤ most = let a = c.args in
-    let ready = c.requires in
-    let here = chunks-at a.starts.now a.sizes.now a.pointers.now (λ d. past_of d ≤ a.h.region) {i = c.loop-i.i} (omega arith) ready.inside in
-    omega (arith, here, ready.region_bound) in
-    let a = c.args in
     let i = c.loop-i.i in
-    let one_more = held_more a.starts.now a.sizes.now a.pointers.now i in
-    (omega arith, rw add-one (omega (arith, one_more)), omega (arith, size-within))
+    let one_more = held_more c.args.a.now.starts.now c.args.a.now.sizes.now c.args.a.now.pointers.now i in
+    let here = size-within _ _ _ c.requires c.loop-i-test.true c.chunk_at-held.ensures in
+    (omega arith, rw (add-one, one_more, c.chunk_at-held.ensures) (omega arith), omega (arith, here))
 
 pub returns : goal.returns
 returns c =
-    let whole : c.loop-i.i ≡ c.args.h.count = omega arith in
+    let whole : c.loop-i.i ≡ c.args.a.now.head.count = omega arith in
     rw (← whole) c.loop-i.invariant.1

@@ -9,8 +9,8 @@ use Rattle.arena.specs.Ladder.{floor_of}
 use Rattle.arena.proofs.Rungs.{tried_open, tried-shut, not-tried}
 use Rattle.arena.proofs.ladder.is_tried.Goals as goal
 
-pub returns-then-larger-base : goal.returns-then-larger-base
-returns-then-larger-base c = sym (tried-shut _ _ _ _ (inl (omega arith)))
+pub returns-then-max-base : goal.returns-then-max-base
+returns-then-max-base c = sym (tried-shut _ _ _ _ (inl (omega arith)))
 
 pub returns-then-h-ne1 : goal.returns-then-h-ne1
 returns-then-h-ne1 c = sym (not-tried _ _ _ _ (omega arith) (λ s. omega (arith, s.limited)))
@@ -42,5 +42,5 @@ returns c =
       nothing-held = eqb-true a.held 0 t;
     })))
     (λ t.
-    ⊎_elim (λ f. absurd (below_floor a.base c.larger.result a.size c.if-larger-base.false c.larger.ensures f))
+    ⊎_elim (λ f. absurd (below_floor a.base c.max.result a.size c.if-max-base.false c.max.ensures f))
     (λ s. eq-eqb a.held 0 s.nothing-held) (tried_open a.h a.held a.size a.base t))

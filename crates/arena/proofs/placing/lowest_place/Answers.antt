@@ -12,10 +12,10 @@ use borrow.Author.Tests.{le-leb}
 use Rattle.rounding.specs.Every.{every}
 use Rattle.rounding.proofs.Tests.{true-false, and_right, and_both}
 use Rattle.arena.specs.declared.Chunk.{Chunk}
-use Rattle.arena.specs.declared.placing.Place.TheVariants.{At, Nowhere}
+use Rattle.std.specs.Prelude.{None, Some}
 use Rattle.arena.specs.Numbers.{footer}
 use Rattle.arena.specs.Placing.{misses, fits, lowest_place}
-use Rattle.arena.specs.Inner.{Passed, place_of}
+use Rattle.arena.specs.Inner.{Passed}
 use Rattle.arena.proofs.Lowest.{Fits, fits-open, fits-shut, lowest-is, none-lowest}
 use Rattle.arena.proofs.placing.lowest_place.Invariants.{NoneBelow}
 use Rattle.arena.proofs.placing.lowest_place.Goals as goal
@@ -33,9 +33,9 @@ module _ (region : ℕ) (cs : List Chunk) (n : ℕ) {align at : ℕ} (below : No
       ]
 
   found : 0 < align → align ∣ at → at + (n + footer) ≤ region → every (misses at (n + footer)) cs ≡ true →
-      At at ≡ place_of (lowest_place region cs align n)
-  unfolding fits place_of
-  found positive d l clear = sym (ap place_of (lowest-is region cs n positive d here least))
+      Some at ≡ lowest_place region cs align n
+  unfolding fits
+  found positive d l clear = sym (lowest-is region cs n positive d here least)
     where
       here : Fits region cs n at
       here = fits-open region cs n at (and_both (le-leb (at + (n + footer)) region l) clear)
@@ -45,9 +45,8 @@ module _ (region : ℕ) (cs : List Chunk) (n : ℕ) {align at : ℕ} (below : No
           let not_lower : ¬ (x < at) = λ m. below x e m f in
           omega arith
 
-  nowhere : 0 < align → region < at + (n + footer) → Nowhere ≡ place_of (lowest_place region cs align n)
-  unfolding place_of
-  nowhere positive l = sym (ap place_of (none-lowest region cs n positive (λ x d f. below x d (omega (arith, f.inside)) f)))
+  nowhere : 0 < align → region < at + (n + footer) → None ≡ lowest_place region cs align n
+  nowhere positive l = sym (none-lowest region cs n positive (λ x d f. below x d (omega (arith, f.inside)) f))
 
 pub returns-then-region-length : goal.returns-then-region-length
 returns-then-region-length c = nowhere _ _ _ {at = 0} (λ x d l f. not-suc-le-zero l) c.requires.align_nonzero.0 (omega arith)

@@ -66,38 +66,33 @@ loop-i-init c = (omega arith, omega arith, none_passed c.args.length c.requires.
 
 pub is_clear_of-requires : goal.is_clear_of-requires
 is_clear_of-requires c =
-    let chunk_inside : past_of c.chunk_at-c.result ≤ c.args.h.region = let a = c.args in
-    rw c.chunk_at-c.ensures
-    (chunks-at a.starts.now a.sizes.now a.pointers.now (λ d. past_of d ≤ a.h.region) c.loop-i-test.true c.requires.ready.inside) in
+    let chunk_inside : past_of c.chunk_at-c.result ≤ c.args.a.now.head.region = rw c.chunk_at-c.ensures
+    (chunks-at c.args.a.now.starts.now c.args.a.now.sizes.now c.args.a.now.pointers.now (λ d. past_of d ≤ c.args.a.now.head.region) c.loop-i-test.true c.requires.ready.inside) in
     omega (arith, chunk_inside)
 
 pub overflow_add-c : goal.overflow_add-c
 overflow_add-c c =
-    let chunk_inside : past_of c.chunk_at-c.result ≤ c.args.h.region = let a = c.args in
-    rw c.chunk_at-c.ensures
-    (chunks-at a.starts.now a.sizes.now a.pointers.now (λ d. past_of d ≤ a.h.region) c.loop-i-test.true c.requires.ready.inside) in
+    let chunk_inside : past_of c.chunk_at-c.result ≤ c.args.a.now.head.region = rw c.chunk_at-c.ensures
+    (chunks-at c.args.a.now.starts.now c.args.a.now.sizes.now c.args.a.now.pointers.now (λ d. past_of d ≤ c.args.a.now.head.region) c.loop-i-test.true c.requires.ready.inside) in
     omega (arith, chunk_inside)
 
 pub overflow_add-c-then-not-is_clear_of : goal.overflow_add-c-then-not-is_clear_of
 overflow_add-c-then-not-is_clear_of c =
-    let chunk_inside : past_of c.chunk_at-c.result ≤ c.args.h.region = let a = c.args in
-    rw c.chunk_at-c.ensures
-    (chunks-at a.starts.now a.sizes.now a.pointers.now (λ d. past_of d ≤ a.h.region) c.loop-i-test.true c.requires.ready.inside) in
+    let chunk_inside : past_of c.chunk_at-c.result ≤ c.args.a.now.head.region = rw c.chunk_at-c.ensures
+    (chunks-at c.args.a.now.starts.now c.args.a.now.sizes.now c.args.a.now.pointers.now (λ d. past_of d ≤ c.args.a.now.head.region) c.loop-i-test.true c.requires.ready.inside) in
     omega (arith, chunk_inside)
 
 pub round_up_to-at-requires : goal.round_up_to-at-requires
 round_up_to-at-requires c =
-    let chunk_inside : past_of c.chunk_at-c.result ≤ c.args.h.region = let a = c.args in
-    rw c.chunk_at-c.ensures
-    (chunks-at a.starts.now a.sizes.now a.pointers.now (λ d. past_of d ≤ a.h.region) c.loop-i-test.true c.requires.ready.inside) in
+    let chunk_inside : past_of c.chunk_at-c.result ≤ c.args.a.now.head.region = rw c.chunk_at-c.ensures
+    (chunks-at c.args.a.now.starts.now c.args.a.now.sizes.now c.args.a.now.pointers.now (λ d. past_of d ≤ c.args.a.now.head.region) c.loop-i-test.true c.requires.ready.inside) in
     omega (arith, chunk_inside)
 
 pub loop-i-preserved : goal.loop-i-preserved
 unfolding chunks_of
 loop-i-preserved c =
-    let chunk_inside : past_of c.chunk_at-c.result ≤ c.args.h.region = let a = c.args in
-    rw c.chunk_at-c.ensures
-    (chunks-at a.starts.now a.sizes.now a.pointers.now (λ d. past_of d ≤ a.h.region) c.loop-i-test.true c.requires.ready.inside) in
+    let chunk_inside : past_of c.chunk_at-c.result ≤ c.args.a.now.head.region = rw c.chunk_at-c.ensures
+    (chunks-at c.args.a.now.starts.now c.args.a.now.sizes.now c.args.a.now.pointers.now (λ d. past_of d ≤ c.args.a.now.head.region) c.loop-i-test.true c.requires.ready.inside) in
     let here = sym c.chunk_at-c.ensures in
     let passing = c.loop-i.invariant.2 in
     let chunk = c.chunk_at-c.result in
@@ -111,5 +106,5 @@ loop-i-preserved c =
 
 pub returns : goal.returns
 returns c =
-    let done : c.loop-i.i ≡ c.args.h.count = omega arith in
+    let done : c.loop-i.i ≡ c.args.a.now.head.count = omega arith in
     rw done at c.loop-i.invariant.2

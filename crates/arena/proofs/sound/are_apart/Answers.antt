@@ -41,17 +41,15 @@ is_clear_of_earlier-requires c = record {
 
 pub returns-then-not-is_clear_of_earlier : goal.returns-then-not-is_clear_of_earlier
 returns-then-not-is_clear_of_earlier c =
-    let a = c.args in
     sym
-    (spoilt a.starts.now a.sizes.now a.pointers.now c.loop-i-test.true c.is_clear_of_earlier.ensures c.if-not-is_clear_of_earlier.true)
+    (spoilt c.args.a.now.starts.now c.args.a.now.sizes.now c.args.a.now.pointers.now c.loop-i-test.true c.is_clear_of_earlier.ensures c.if-not-is_clear_of_earlier.true)
 
 pub loop-i-preserved : goal.loop-i-preserved
 loop-i-preserved c =
     let loop = c.loop-i in
-    let a = c.args in
-    (omega arith, kept a.starts.now a.sizes.now a.pointers.now loop.i c.is_clear_of_earlier.ensures c.if-not-is_clear_of_earlier.false loop.invariant.1)
+    (omega arith, kept c.args.a.now.starts.now c.args.a.now.sizes.now c.args.a.now.pointers.now loop.i c.is_clear_of_earlier.ensures c.if-not-is_clear_of_earlier.false loop.invariant.1)
 
 pub returns : goal.returns
 returns c =
-    let all : c.loop-i.i ≡ c.args.h.count = omega arith in
+    let all : c.loop-i.i ≡ c.args.a.now.head.count = omega arith in
     rw (← all) (sym c.loop-i.invariant.1)

@@ -31,11 +31,10 @@ is_chunk_sound-requires c = c.requires.0
 
 pub returns-then-not-is_chunk_sound : goal.returns-then-not-is_chunk_sound
 returns-then-not-is_chunk_sound c =
-    let at-hand : (let a = c.args in let chunks = chunks_of a.starts.now a.sizes.now a.pointers.now in chunks c.loop-left.left ≡ c.chunk_at-c.result ∷ chunks (c.loop-left.left - 1)) = let a = c.args in
-    let chunks = chunks_of a.starts.now a.sizes.now a.pointers.now in
-    chunks-newest a.starts.now a.sizes.now a.pointers.now c.loop-left.left c.loop-left-test.true
+    let at-hand : (let chunks = chunks_of c.args.a.now.starts.now c.args.a.now.sizes.now c.args.a.now.pointers.now in chunks c.loop-left.left ≡ c.chunk_at-c.result ∷ chunks (c.loop-left.left - 1)) = let chunks = chunks_of c.args.a.now.starts.now c.args.a.now.sizes.now c.args.a.now.pointers.now in
+    chunks-newest c.args.a.now.starts.now c.args.a.now.sizes.now c.args.a.now.pointers.now c.loop-left.left c.loop-left-test.true
     ∙ ap (λ (d : Chunk). d ∷ chunks (c.loop-left.left - 1)) (sym c.chunk_at-c.ensures) in
-    let m = c.args.h.minimum in
+    let m = c.args.a.now.head.minimum in
     sym
     (c.loop-left.invariant.1
     ∙ ap (ascending c.loop-left.top m) at-hand
@@ -43,11 +42,10 @@ returns-then-not-is_chunk_sound c =
 
 pub loop-left-preserved : goal.loop-left-preserved
 loop-left-preserved c =
-    let at-hand : (let a = c.args in let chunks = chunks_of a.starts.now a.sizes.now a.pointers.now in chunks c.loop-left.left ≡ c.chunk_at-c.result ∷ chunks (c.loop-left.left - 1)) = let a = c.args in
-    let chunks = chunks_of a.starts.now a.sizes.now a.pointers.now in
-    chunks-newest a.starts.now a.sizes.now a.pointers.now c.loop-left.left c.loop-left-test.true
+    let at-hand : (let chunks = chunks_of c.args.a.now.starts.now c.args.a.now.sizes.now c.args.a.now.pointers.now in chunks c.loop-left.left ≡ c.chunk_at-c.result ∷ chunks (c.loop-left.left - 1)) = let chunks = chunks_of c.args.a.now.starts.now c.args.a.now.sizes.now c.args.a.now.pointers.now in
+    chunks-newest c.args.a.now.starts.now c.args.a.now.sizes.now c.args.a.now.pointers.now c.loop-left.left c.loop-left-test.true
     ∙ ap (λ (d : Chunk). d ∷ chunks (c.loop-left.left - 1)) (sym c.chunk_at-c.ensures) in
-    let m = c.args.h.minimum in (
+    let m = c.args.a.now.head.minimum in (
       omega arith,
       c.loop-left.invariant.1
           ∙ ap (ascending c.loop-left.top m) at-hand
@@ -57,8 +55,7 @@ loop-left-preserved c =
 pub returns : goal.returns
 unfolding ascending chunks_of
 returns c =
-    let a = c.args in
     let none_left : c.loop-left.left ≡ 0 = omega arith in
     sym
     (c.loop-left.invariant.1
-    ∙ ap (λ (k : ℕ). ascending c.loop-left.top a.h.minimum (chunks_of a.starts.now a.sizes.now a.pointers.now k)) none_left)
+    ∙ ap (λ (k : ℕ). ascending c.loop-left.top c.args.a.now.head.minimum (chunks_of c.args.a.now.starts.now c.args.a.now.sizes.now c.args.a.now.pointers.now k)) none_left)

@@ -9,7 +9,7 @@ use Rattle.arena.proofs.sound.are_ascending.Given as goal
 abbrev pub invariant-loop-left : goal.invariant-loop-left
 invariant-loop-left l =
     (l.left ≤ l.initial.left)
-    × (ascending l.initial.top l.minimum (chunks_of l.starts l.sizes l.pointers l.initial.left) ≡ ascending l.top l.minimum (chunks_of l.starts l.sizes l.pointers l.left))
+    × (ascending l.initial.top l.a.head.minimum (chunks_of l.a.starts.now l.a.sizes.now l.a.pointers.now l.initial.left) ≡ ascending l.top l.a.head.minimum (chunks_of l.a.starts.now l.a.sizes.now l.a.pointers.now l.left))
 
 abbrev pub decreases-loop-left : goal.decreases-loop-left
 decreases-loop-left l = l.left

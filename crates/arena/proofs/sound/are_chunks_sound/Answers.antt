@@ -17,19 +17,17 @@ is_chunk_sound-requires c = c.requires.0
 
 pub returns-then-not-is_chunk_sound : goal.returns-then-not-is_chunk_sound
 returns-then-not-is_chunk_sound c =
-    let a = c.args in
     let failed = rw c.chunk_at-c.ensures at (taken_false c.is_chunk_sound.ensures c.if-not-is_chunk_sound.true) in
-    sym (chunks-fail a.starts.now a.sizes.now a.pointers.now (chunk_sound a.h.region a.h.minimum) c.loop-i-test.true failed)
+    sym (chunks-fail c.args.a.now.starts.now c.args.a.now.sizes.now c.args.a.now.pointers.now (chunk_sound c.args.a.now.head.region c.args.a.now.head.minimum) c.loop-i-test.true failed)
 
 pub loop-i-preserved : goal.loop-i-preserved
 loop-i-preserved c =
     let read = c.chunk_at-c in
     let loop = c.loop-i in
-    let a = c.args in
     let this = rw read.ensures at (left-true c.is_chunk_sound.ensures c.if-not-is_chunk_sound.false) in
-    (omega arith, chunks_pass a.starts.now a.sizes.now a.pointers.now (chunk_sound a.h.region a.h.minimum) loop.i this loop.invariant.1)
+    (omega arith, chunks_pass c.args.a.now.starts.now c.args.a.now.sizes.now c.args.a.now.pointers.now (chunk_sound c.args.a.now.head.region c.args.a.now.head.minimum) loop.i this loop.invariant.1)
 
 pub returns : goal.returns
 returns c =
-    let all : c.loop-i.i ≡ c.args.h.count = omega arith in
+    let all : c.loop-i.i ≡ c.args.a.now.head.count = omega arith in
     rw (← all) (sym c.loop-i.invariant.1)

@@ -8,7 +8,7 @@ use Rattle.arena.specs.Sound.{chunk_sound}
 use Rattle.arena.proofs.sound.are_chunks_sound.Given as goal
 
 abbrev pub invariant-loop-i : goal.invariant-loop-i
-invariant-loop-i l = (l.i ≤ l.count) × (every (chunk_sound l.region l.minimum) (chunks_of l.starts l.sizes l.pointers l.i) ≡ true)
+invariant-loop-i l = (l.i ≤ l.a.head.count) × (every (chunk_sound l.a.head.region l.a.head.minimum) (chunks_of l.a.starts.now l.a.sizes.now l.a.pointers.now l.i) ≡ true)
 
 abbrev pub decreases-loop-i : goal.decreases-loop-i
-decreases-loop-i l = l.count - l.i
+decreases-loop-i l = l.a.head.count - l.i

@@ -25,25 +25,22 @@ loop-j-init c = (omega arith, refl)
 
 pub are_clear-requires : goal.are_clear-requires
 are_clear-requires c =
-    let a = c.args in
-    let fits = no_wrap a.h a.starts.now a.sizes.now a.pointers.now c.requires.ready in
+    let fits = no_wrap c.args.a.now.head c.args.a.now.starts.now c.args.a.now.sizes.now c.args.a.now.pointers.now c.requires.ready in
     (fits _ _ c.requires.i_lt_count c.chunk_at-c.ensures, fits _ _ (omega arith) c.chunk_at-d.ensures)
 
 pub returns-then-not-are_clear : goal.returns-then-not-are_clear
 returns-then-not-are_clear c =
-    let a = c.args in
     let this = c.chunk_at-c in
     let failed = rw c.chunk_at-d.ensures at (taken_false c.are_clear.ensures c.if-not-are_clear.true) in
     rw (← this.ensures)
-    (sym (chunks-fail a.starts.now a.sizes.now a.pointers.now (clear this.result) c.loop-j-test.true failed))
+    (sym (chunks-fail c.args.a.now.starts.now c.args.a.now.sizes.now c.args.a.now.pointers.now (clear this.result) c.loop-j-test.true failed))
 
 pub loop-j-preserved : goal.loop-j-preserved
 loop-j-preserved c =
     let loop = c.loop-j in
     let this = c.chunk_at-c in
-    let a = c.args in
     let passed = rw c.chunk_at-d.ensures at (left-true c.are_clear.ensures c.if-not-are_clear.false) in
-    (omega arith, chunks_pass a.starts.now a.sizes.now a.pointers.now (clear this.result) loop.j passed loop.invariant.1)
+    (omega arith, chunks_pass c.args.a.now.starts.now c.args.a.now.sizes.now c.args.a.now.pointers.now (clear this.result) loop.j passed loop.invariant.1)
 
 pub returns : goal.returns
 returns c =

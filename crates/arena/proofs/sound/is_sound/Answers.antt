@@ -16,6 +16,7 @@ use Rattle.arena.specs.Record.{record_of, held_of}
 use Rattle.arena.specs.Sound.{head_sound, chunk_sound, table_sound, sound_of}
 use Rattle.arena.proofs.Soundness.{head-open, chunk-open, chunk-shut, apart-shut, ascending-sound, ascending-apart}
 use Rattle.arena.proofs.sound.is_sound.Goals as goal
+use Rattle.arena.specs.Inner.{lent_of}
 
 pub returns-then-not-is_head_sound : goal.returns-then-not-is_head_sound
 unfolding sound_of
@@ -23,30 +24,30 @@ returns-then-not-is_head_sound c = rw (taken_false c.is_head_sound.ensures c.if-
 
 pub unused_bits-requires : goal.unused_bits-requires
 unused_bits-requires c =
-    let head_passed : head_sound c.args.h ≡ true = left-true c.is_head_sound.ensures c.if-not-is_head_sound.false in
-    (head-open c.args.h head_passed).count_bound
+    let head_passed : head_sound c.args.a.now.head ≡ true = left-true c.is_head_sound.ensures c.if-not-is_head_sound.false in
+    (head-open c.args.a.now.head head_passed).count_bound
 
 pub returns-then-unused_bits-ne0 : goal.returns-then-unused_bits-ne0
 unfolding sound_of table_sound
 returns-then-unused_bits-ne0 c =
-    let head_passed : head_sound c.args.h ≡ true = left-true c.is_head_sound.ensures c.if-not-is_head_sound.false in
+    let head_passed : head_sound c.args.a.now.head ≡ true = left-true c.is_head_sound.ensures c.if-not-is_head_sound.false in
     rw
     (head_passed, ← c.unused_bits.ensures, ne_eqb c.unused_bits.result 0 c.if-unused_bits-ne0.true)
 
 pub are_ascending-requires : goal.are_ascending-requires
 are_ascending-requires c =
-    let head_passed : head_sound c.args.h ≡ true = left-true c.is_head_sound.ensures c.if-not-is_head_sound.false in
-    let ordered : (let h = c.args.h in (one_bit h.minimum ≡ true) × (h.count ≤ places)) = let head = head-open c.args.h head_passed in
+    let head_passed : head_sound c.args.a.now.head ≡ true = left-true c.is_head_sound.ensures c.if-not-is_head_sound.false in
+    let ordered : (let h = c.args.a.now.head in (one_bit h.minimum ≡ true) × (h.count ≤ places)) = let head = head-open c.args.a.now.head head_passed in
     (power-one-bit head.minimum-power, head.count_bound) in
     ordered
 
 pub returns-then-are_ascending : goal.returns-then-are_ascending
 unfolding sound_of table_sound
 returns-then-are_ascending c =
-    let arena_at : Arena = record_of c.args.h c.args.starts.now c.args.sizes.now c.args.pointers.now in
-    let head_passed : head_sound c.args.h ≡ true = left-true c.is_head_sound.ensures c.if-not-is_head_sound.false in
+    let arena_at : Arena = lent_of c.args.a.now in
+    let head_passed : head_sound c.args.a.now.head ≡ true = left-true c.is_head_sound.ensures c.if-not-is_head_sound.false in
     let table-passed : table_sound arena_at ≡ true = sym c.unused_bits.ensures ∙ eq-eqb c.unused_bits.result 0 c.if-unused_bits-ne0.false in
-    let h = c.args.h in
+    let h = c.args.a.now.head in
     let cs = held_of arena_at in
     let up = sym c.are_ascending.ensures ∙ c.if-are_ascending.true in
     rw (
@@ -58,25 +59,25 @@ returns-then-are_ascending c =
 
 pub are_chunks_sound-requires : goal.are_chunks_sound-requires
 are_chunks_sound-requires c =
-    let head_passed : head_sound c.args.h ≡ true = left-true c.is_head_sound.ensures c.if-not-is_head_sound.false in
-    let ordered : (let h = c.args.h in (one_bit h.minimum ≡ true) × (h.count ≤ places)) = let head = head-open c.args.h head_passed in
+    let head_passed : head_sound c.args.a.now.head ≡ true = left-true c.is_head_sound.ensures c.if-not-is_head_sound.false in
+    let ordered : (let h = c.args.a.now.head in (one_bit h.minimum ≡ true) × (h.count ≤ places)) = let head = head-open c.args.a.now.head head_passed in
     (power-one-bit head.minimum-power, head.count_bound) in
     ordered
 
 pub returns-then-not-are_chunks_sound : goal.returns-then-not-are_chunks_sound
 unfolding sound_of table_sound
 returns-then-not-are_chunks_sound c =
-    let arena_at : Arena = record_of c.args.h c.args.starts.now c.args.sizes.now c.args.pointers.now in
-    let head_passed : head_sound c.args.h ≡ true = left-true c.is_head_sound.ensures c.if-not-is_head_sound.false in
+    let arena_at : Arena = lent_of c.args.a.now in
+    let head_passed : head_sound c.args.a.now.head ≡ true = left-true c.is_head_sound.ensures c.if-not-is_head_sound.false in
     let table-passed : table_sound arena_at ≡ true = sym c.unused_bits.ensures ∙ eq-eqb c.unused_bits.result 0 c.if-unused_bits-ne0.false in
     rw (head_passed, table-passed, taken_false c.are_chunks_sound.ensures c.if-not-are_chunks_sound.true)
 
 pub are_apart-requires : goal.are_apart-requires
 are_apart-requires c =
-    let arena_at : Arena = record_of c.args.h c.args.starts.now c.args.sizes.now c.args.pointers.now in
-    let head_passed : head_sound c.args.h ≡ true = left-true c.is_head_sound.ensures c.if-not-is_head_sound.false in
-    let chunks-passed : every (chunk_sound c.args.h.region c.args.h.minimum) (held_of arena_at) ≡ true = left-true c.are_chunks_sound.ensures c.if-not-are_chunks_sound.false in
-    let h = c.args.h in
+    let arena_at : Arena = lent_of c.args.a.now in
+    let head_passed : head_sound c.args.a.now.head ≡ true = left-true c.is_head_sound.ensures c.if-not-is_head_sound.false in
+    let chunks-passed : every (chunk_sound c.args.a.now.head.region c.args.a.now.head.minimum) (held_of arena_at) ≡ true = left-true c.are_chunks_sound.ensures c.if-not-are_chunks_sound.false in
+    let h = c.args.a.now.head in
     let head = head-open h head_passed in
     record {
       region_bound = head.region_bound;
@@ -89,8 +90,8 @@ are_apart-requires c =
 pub returns : goal.returns
 unfolding sound_of table_sound
 returns c =
-    let arena_at : Arena = record_of c.args.h c.args.starts.now c.args.sizes.now c.args.pointers.now in
-    let head_passed : head_sound c.args.h ≡ true = left-true c.is_head_sound.ensures c.if-not-is_head_sound.false in
+    let arena_at : Arena = lent_of c.args.a.now in
+    let head_passed : head_sound c.args.a.now.head ≡ true = left-true c.is_head_sound.ensures c.if-not-is_head_sound.false in
     let table-passed : table_sound arena_at ≡ true = sym c.unused_bits.ensures ∙ eq-eqb c.unused_bits.result 0 c.if-unused_bits-ne0.false in
-    let chunks-passed : every (chunk_sound c.args.h.region c.args.h.minimum) (held_of arena_at) ≡ true = left-true c.are_chunks_sound.ensures c.if-not-are_chunks_sound.false in
+    let chunks-passed : every (chunk_sound c.args.a.now.head.region c.args.a.now.head.minimum) (held_of arena_at) ≡ true = left-true c.are_chunks_sound.ensures c.if-not-are_chunks_sound.false in
     rw (head_passed, table-passed, chunks-passed) c.are_apart.ensures

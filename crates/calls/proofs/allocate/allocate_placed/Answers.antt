@@ -5,4 +5,4 @@ pub returns-in_default : goal.returns-in_default
 returns-in_default c = c.allocate_in_full.ensures
 
 pub returns : goal.returns
-returns c = c.allocate_fast.ensures _ c.in-Room.is
+returns c = rw c.moved.ensures (c.allocate_fast.ensures _ c.in-Some.is)

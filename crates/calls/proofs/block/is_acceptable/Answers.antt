@@ -12,6 +12,8 @@ use Rattle.arena.proofs.View.{chunks-newest, chunks-at}
 use Rattle.calls.specs.Tests.{has_block, acceptable}
 use Rattle.calls.proofs.Some.{any-now, any-later, any_none}
 use Rattle.calls.proofs.block.is_acceptable.Goals as goal
+use Rattle.arena.specs.Inner.{lent_of}
+use Rattle.arena.specs.Record.{held_of}
 
 pub is_multiple_of_power-requires : goal.is_multiple_of_power-requires
 is_multiple_of_power-requires c = c.requires.align_value
@@ -28,21 +30,18 @@ chunk_at-c-requires c = omega (arith, c.requires.ready.count_bound)
 
 pub has_block-requires : goal.has_block-requires
 has_block-requires c =
-    let a = c.args in
     let ready = c.requires.ready in
-    let within = chunks-at a.starts.now a.sizes.now a.pointers.now (λ d. past_of d ≤ a.h.region) {i = c.loop-left.left - 1} {k = a.h.count} (omega arith) ready.inside in
+    let within = chunks-at c.args.a.now.starts.now c.args.a.now.sizes.now c.args.a.now.pointers.now (λ d. past_of d ≤ c.args.a.now.head.region) {i = c.loop-left.left - 1} {k = c.args.a.now.head.count} (omega arith) ready.inside in
     rw c.chunk_at-c.ensures (omega (arith, within, ready.region_bound))
 
 pub returns-then-has_block : goal.returns-then-has_block
 unfolding acceptable
 returns-then-has_block c =
-    let at-hand : (let a = c.args in let chunks = chunks_of a.starts.now a.sizes.now a.pointers.now in chunks c.loop-left.left ≡ c.chunk_at-c.result ∷ chunks (c.loop-left.left - 1)) = let a = c.args in
-    let chunks = chunks_of a.starts.now a.sizes.now a.pointers.now in
-    chunks-newest a.starts.now a.sizes.now a.pointers.now c.loop-left.left c.loop-left-test.true
+    let at-hand : (let chunks = chunks_of c.args.a.now.starts.now c.args.a.now.sizes.now c.args.a.now.pointers.now in chunks c.loop-left.left ≡ c.chunk_at-c.result ∷ chunks (c.loop-left.left - 1)) = let chunks = chunks_of c.args.a.now.starts.now c.args.a.now.sizes.now c.args.a.now.pointers.now in
+    chunks-newest c.args.a.now.starts.now c.args.a.now.sizes.now c.args.a.now.pointers.now c.loop-left.left c.loop-left-test.true
     ∙ ap (λ (d : Chunk). d ∷ chunks (c.loop-left.left - 1)) (sym c.chunk_at-c.ensures) in
-    let asked : (let a = c.args in let cs = chunks_of a.starts.now a.sizes.now a.pointers.now a.h.count in acceptable cs a.offset a.size a.align ≡ any (has_block a.offset a.size) cs) = rw (left-true c.is_multiple_of_power.ensures c.if-not-is_multiple_of_power.false) in
-    let a = c.args in
-    let test = has_block a.offset a.size in
+    let asked : (let cs = held_of (lent_of c.args.a.now) in acceptable cs c.args.offset c.args.size c.args.align ≡ any (has_block c.args.offset c.args.size) cs) = rw (left-true c.is_multiple_of_power.ensures c.if-not-is_multiple_of_power.false) in
+    let test = has_block c.args.offset c.args.size in
     sym
     (asked
     ∙ c.loop-left.invariant.1
@@ -51,12 +50,10 @@ returns-then-has_block c =
 
 pub loop-left-preserved : goal.loop-left-preserved
 loop-left-preserved c =
-    let at-hand : (let a = c.args in let chunks = chunks_of a.starts.now a.sizes.now a.pointers.now in chunks c.loop-left.left ≡ c.chunk_at-c.result ∷ chunks (c.loop-left.left - 1)) = let a = c.args in
-    let chunks = chunks_of a.starts.now a.sizes.now a.pointers.now in
-    chunks-newest a.starts.now a.sizes.now a.pointers.now c.loop-left.left c.loop-left-test.true
+    let at-hand : (let chunks = chunks_of c.args.a.now.starts.now c.args.a.now.sizes.now c.args.a.now.pointers.now in chunks c.loop-left.left ≡ c.chunk_at-c.result ∷ chunks (c.loop-left.left - 1)) = let chunks = chunks_of c.args.a.now.starts.now c.args.a.now.sizes.now c.args.a.now.pointers.now in
+    chunks-newest c.args.a.now.starts.now c.args.a.now.sizes.now c.args.a.now.pointers.now c.loop-left.left c.loop-left-test.true
     ∙ ap (λ (d : Chunk). d ∷ chunks (c.loop-left.left - 1)) (sym c.chunk_at-c.ensures) in
-    let a = c.args in
-    let test = has_block a.offset a.size in (
+    let test = has_block c.args.offset c.args.size in (
       omega arith,
       c.loop-left.invariant.1
           ∙ ap (any test) at-hand
@@ -66,11 +63,10 @@ loop-left-preserved c =
 pub returns : goal.returns
 unfolding chunks_of acceptable
 returns c =
-    let asked : (let a = c.args in let cs = chunks_of a.starts.now a.sizes.now a.pointers.now a.h.count in acceptable cs a.offset a.size a.align ≡ any (has_block a.offset a.size) cs) = rw (left-true c.is_multiple_of_power.ensures c.if-not-is_multiple_of_power.false) in
-    let a = c.args in
+    let asked : (let cs = held_of (lent_of c.args.a.now) in acceptable cs c.args.offset c.args.size c.args.align ≡ any (has_block c.args.offset c.args.size) cs) = rw (left-true c.is_multiple_of_power.ensures c.if-not-is_multiple_of_power.false) in
     let none_left : c.loop-left.left ≡ 0 = omega arith in
     sym
     (asked
     ∙ c.loop-left.invariant.1
-    ∙ ap (λ (k : ℕ). any (has_block a.offset a.size) (chunks_of a.starts.now a.sizes.now a.pointers.now k)) none_left
-    ∙ any_none (has_block a.offset a.size))
+    ∙ ap (λ (k : ℕ). any (has_block c.args.offset c.args.size) (chunks_of c.args.a.now.starts.now c.args.a.now.sizes.now c.args.a.now.pointers.now k)) none_left
+    ∙ any_none (has_block c.args.offset c.args.size))

@@ -1,19 +1,13 @@
--- `calls::block::is_at_pointer` meets its contract: the last held place is the current chunk. Assumes nothing.
-use native.Mathlib.Omega.{arith}
-use mathlib.Core.Path.{sym, ap}
-use Rattle.arena.specs.Record.{chunks_of}
-use Rattle.arena.proofs.View.{chunks-newest}
+-- `calls::block::is_at_pointer` meets its contract: the current chunk is the first of the held ones. Assumes nothing.
+use mathlib.Core.Path.{sym, ◌∙◌, ap}
+use Rattle.arena.proofs.Current.{none-current, current-is}
 use Rattle.calls.specs.Allocate.{at_pointer}
 use Rattle.calls.proofs.block.is_at_pointer.Goals as goal
 
-pub returns-then-count-eq0 : goal.returns-then-count-eq0
-unfolding chunks_of at_pointer
-returns-then-count-eq0 c =
-    let a = c.args in
-    sym (ap (λ k. at_pointer (chunks_of a.starts.now a.sizes.now a.pointers.now k) a.offset) c.if-count-eq0.true)
+pub returns-in_default : goal.returns-in_default
+unfolding at_pointer
+returns-in_default c = sym (ap (λ cs. at_pointer cs c.args.offset) (none-current _ (sym c.current.ensures ∙ c.in_default.is)))
 
 pub returns : goal.returns
 unfolding at_pointer
-returns c =
-    let a = c.args in
-    sym (ap (λ cs. at_pointer cs a.offset) (chunks-newest a.starts.now a.sizes.now a.pointers.now a.h.count (omega arith)))
+returns c = sym (ap (λ cs. at_pointer cs c.args.offset) (current-is _ (sym c.current.ensures ∙ c.in-Some.is)).newest)

@@ -5,37 +5,27 @@ use mathlib.Core.Bool.{true}
 use mathlib.Core.Path.{◌≡◌, refl, sym, ◌∙◌}
 use Rattle.rounding.proofs.Powers.{power-one-bit}
 use Rattle.rounding.proofs.Tests.{true-false, left-true}
-use Rattle.arena.specs.declared.Arena.{Arena}
-use Rattle.arena.specs.Record.{record_of}
 use Rattle.arena.specs.Sound.{allowed_align}
-use Rattle.arena.proofs.Soundness.{Sound, ChunkSound, sound-open, align-open}
+use Rattle.arena.proofs.Soundness.{sound-open, align-open}
 use Rattle.calls.proofs.Last.{last_block}
-use Rattle.calls.proofs.Reading.{read-newest, read-sound, read-end}
+use Rattle.arena.proofs.Current.{current-is}
+use Rattle.calls.proofs.Reading.{current-sound, current-end}
 use Rattle.calls.proofs.block.is_last_block.Goals as goal
 
-pub returns-then-count-eq0 : goal.returns-then-count-eq0
-returns-then-count-eq0 c = λ e. absurd (true-false e refl)
-
-pub chunk_at-c-requires : goal.chunk_at-c-requires
-chunk_at-c-requires c =
-    let own : Arena = record_of c.args.h c.args.starts.now c.args.sizes.now c.args.pointers.now in
-    let sound : Sound own = sound-open own c.requires in
-    omega (arith, sound.head.count_bound)
+pub returns-in_default : goal.returns-in_default
+returns-in_default c = λ e. absurd (true-false e refl)
 
 pub returns-then-offset-c : goal.returns-then-offset-c
 returns-then-offset-c c = λ e. absurd (true-false e refl)
 
 pub overflow_add-c : goal.overflow_add-c
 overflow_add-c c =
-    let own : Arena = record_of c.args.h c.args.starts.now c.args.sizes.now c.args.pointers.now in
-    let sound : Sound own = sound-open own c.requires in
-    omega (arith, read-end sound (omega arith) c.chunk_at-c.ensures)
+    omega (arith, current-end (sound-open _ c.args.a.now.sound) (current-is _ (sym c.current.ensures ∙ c.in-Some.is)))
 
 pub overflow_sub-c : goal.overflow_sub-c
 overflow_sub-c c =
-    let own : Arena = record_of c.args.h c.args.starts.now c.args.sizes.now c.args.pointers.now in
-    let sound : Sound own = sound-open own c.requires in
-    let current : ChunkSound c.args.h.region c.args.h.minimum c.chunk_at-c.result = read-sound sound (omega arith) c.chunk_at-c.ensures in
+    let now = current-is _ (sym c.current.ensures ∙ c.in-Some.is) in
+    let current = current-sound (sound-open _ c.args.a.now.sound) now in
     omega (arith, c.if-offset-c.false, current.below_end)
 
 pub returns-then-c-offset : goal.returns-then-c-offset
@@ -51,12 +41,9 @@ is_multiple_of_power-requires c =
 
 pub returns : goal.returns
 returns c =
-    let own : Arena = record_of c.args.h c.args.starts.now c.args.sizes.now c.args.pointers.now in
-    let sound : Sound own = sound-open own c.requires in
-    let current : ChunkSound c.args.h.region c.args.h.minimum c.chunk_at-c.result = read-sound sound (omega arith) c.chunk_at-c.ensures in
+    let now = current-is _ (sym c.current.ensures ∙ c.in-Some.is) in
+    let current = current-sound (sound-open _ c.args.a.now.sound) now in
     let allowed : allowed_align c.args.align ≡ true = left-true c.is_allowed_align.ensures c.if-not-is_allowed_align.false in
     λ e.
-    let s = c.args in
-    last_block s.offset s.size current c.if-offset-c.false (omega (arith, c.if-c-offset.false, c.if-offset-c.false, current.below_end)) own s.align
-    (read-newest s.starts.now s.sizes.now s.pointers.now s.h.count (omega arith) c.chunk_at-c.ensures)
-    sound.head.region_bound allowed (sym c.is_multiple_of_power.ensures ∙ e)
+    last_block c.args.offset c.args.size current c.if-offset-c.false (omega (arith, c.if-c-offset.false, c.if-offset-c.false, current.below_end)) _ c.args.align
+    now.newest (sound-open _ c.args.a.now.sound).head.region_bound allowed (sym c.is_multiple_of_power.ensures ∙ e)

@@ -1,26 +1,18 @@
--- `calls::bytes::carry_short` meets its contract: the part of the block that is lent has n bytes.
--- Assumes nothing.
-use mathlib.Core.Path.{◌≡◌, sym, ap, subst, ◌∙◌}
-use Prim.Native.Nat.{ℕ, ◌+◌, ◌≤◌}
-use lib.ListN.{length, take, replicate}
-use lib.Seq.{length-take-le}
-use Rattle.calls.specs.Bytes.{carried}
+-- `calls::bytes::carry_short` meets its contract: the block holds the bytes as they stood. Assumes nothing.
+use mathlib.Core.Path.{◌≡◌, ap, ◌∙◌}
+use Prim.Native.Nat.{◌+◌, ◌-◌}
+use native.Mathlib.Omega.{arith}
+use lib.ListN.{length}
+use lib.Seq.{take_at}
+use Rattle.calls.specs.Bytes.{part}
+use Rattle.calls.proofs.Writing.{length_part, carried-block}
 use Rattle.calls.proofs.bytes.carry_short.Goals as goal
-
-lent : (n : ℕ) → n ≤ 64 → length {A = ℕ} (take n (replicate 64 0)) ≡ n
-lent n h = length-take-le n (replicate 64 0) h
-
-pub slice_bounds-carry_through-end : goal.slice_bounds-carry_through-end
-slice_bounds-carry_through-end c = sym (lent c.args.n c.requires.0)
-
-pub carry_through-requires : goal.carry_through-requires
-carry_through-requires c =
-    let size = sym (lent c.args.n c.requires.0) in (
-      subst (λ (k : ℕ). c.args.from + k ≤ length c.args.region.now) size c.requires.1,
-      subst (λ (k : ℕ). c.args.to + k ≤ length c.args.region.now) size c.requires.2,
-    )
 
 pub returns : goal.returns
 returns c =
-    c.carry_through.ensures
-    ∙ ap (carried c.args.region.now c.args.from c.args.to) (lent c.args.n c.requires.0)
+    let start = c.args in
+    let bytes = start.region.now in
+    let same : start.from + start.n - start.from ≡ start.n = omega arith in
+    let read = c.copy_from_slice.ensures.after ∙ ap (part bytes start.from) same in
+    let long : length c.copy_from_slice.new.self ≡ start.n = ap length read ∙ length_part bytes start.from start.n c.requires.1 in
+    carried-block bytes start.from start.to start.n (take_at c.copy_from_slice.new.self _ start.n long ∙ read) c.copy_from.ensures

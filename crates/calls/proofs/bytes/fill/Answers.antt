@@ -1,5 +1,4 @@
--- `calls::bytes::fill` meets its contract: the part that is lent is `size` bytes long and comes back full of the value.
--- Assumes nothing.
+-- `calls::bytes::fill` meets its contract: the part that is lent is `size` bytes long and comes back full of the value. Assumes nothing.
 mod Stores
 use mathlib.Core.Path.{◌≡◌, ap, ◌∙◌}
 use Prim.Native.Nat.{ℕ, ◌+◌, ◌-◌}
@@ -15,6 +14,6 @@ returns c =
     let start = c.args in
     let lent = start.at + start.size - start.at in
     let long : length (part start.region.now start.at lent) ≡ start.size = omega (arith, length_part start.region.now start.at lent (omega arith)) in
-    written_back start.region.now start.at lent (replicate start.size start.value) c.set_all.new.part
-    (c.set_all.ensures ∙ ap (λ (k : ℕ). replicate k start.value) long)
+    written_back start.region.now start.at lent (replicate start.size start.value) c.fill.new.self
+    (c.fill.ensures.after (λ y same. same) ∙ ap (λ (k : ℕ). replicate k start.value) long)
     (omega (arith, length-replicate start.size start.value))

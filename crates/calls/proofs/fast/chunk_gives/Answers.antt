@@ -6,9 +6,8 @@ use mathlib.Core.Path.{◌≡◌, sym, ◌∙◌, ap}
 use Rattle.rounding.specs.Round.{round_up}
 use Rattle.rounding.proofs.Powers.{Power, one-bit-power, power-positive, power_divides, max_cases}
 use Rattle.rounding.proofs.Rounding.{up-at-least, up-near, up_multiple, up-stays, up-monotone, up_least}
-use Rattle.calls.specs.declared.fast.Fast.TheVariants.{Room}
+use Rattle.std.specs.Prelude.{Some}
 use Rattle.calls.specs.Allocate.{needed}
-use Rattle.calls.specs.Inner.{fast_of}
 use Rattle.calls.proofs.Carving.{chunk-gives}
 use Rattle.calls.proofs.Giving.{chunk-lacks}
 use Rattle.calls.proofs.fast.chunk_gives.Goals as goal
@@ -29,38 +28,28 @@ up_to_power-aligned-requires c =
 
 pub up_to_power-needed-requires : goal.up_to_power-needed-requires
 up_to_power-needed-requires c =
-    let a = c.args in
-    let near = up-near a.size a.align (power-positive (one-bit-power a.align c.requires.2)) in
+    let near = up-near c.args.size c.args.align (power-positive (one-bit-power c.args.align c.requires.2)) in
     (c.requires.0, omega (arith, c.up_to_power-aligned.ensures, near, c.requires.1, c.requires.3, c.requires.4))
 
 pub returns-then-top-needed : goal.returns-then-top-needed
-unfolding fast_of
 returns-then-top-needed c =
-    let needed-bytes : (let a = c.args in c.up_to_power-needed.result ≡ needed a.minimum a.size a.align) = let a = c.args in
-    c.up_to_power-needed.ensures
-    ∙ ap (λ (n : ℕ). round_up n a.minimum) c.up_to_power-aligned.ensures
-    ∙ up-twice a.size (one-bit-power a.align c.requires.2) (one-bit-power a.minimum c.requires.0) in
-    let a = c.args in
-    sym (ap fast_of (chunk-lacks a.minimum a.c a.size a.align (omega (arith, c.down_to_power-top.ensures, needed-bytes))))
+    let needed-bytes : (c.up_to_power-needed.result ≡ needed c.args.minimum c.args.size c.args.align) = c.up_to_power-needed.ensures
+    ∙ ap (λ (n : ℕ). round_up n c.args.minimum) c.up_to_power-aligned.ensures
+    ∙ up-twice c.args.size (one-bit-power c.args.align c.requires.2) (one-bit-power c.args.minimum c.requires.0) in
+    sym (chunk-lacks c.args.minimum c.args.c c.args.size c.args.align (omega (arith, c.down_to_power-top.ensures, needed-bytes)))
 
 pub returns-then-p-c : goal.returns-then-p-c
-unfolding fast_of
 returns-then-p-c c =
-    let needed-bytes : (let a = c.args in c.up_to_power-needed.result ≡ needed a.minimum a.size a.align) = let a = c.args in
-    c.up_to_power-needed.ensures
-    ∙ ap (λ (n : ℕ). round_up n a.minimum) c.up_to_power-aligned.ensures
-    ∙ up-twice a.size (one-bit-power a.align c.requires.2) (one-bit-power a.minimum c.requires.0) in
-    let a = c.args in
-    sym (ap fast_of (chunk-lacks a.minimum a.c a.size a.align (omega (arith, c.down_to_power-top.ensures, needed-bytes))))
+    let needed-bytes : (c.up_to_power-needed.result ≡ needed c.args.minimum c.args.size c.args.align) = c.up_to_power-needed.ensures
+    ∙ ap (λ (n : ℕ). round_up n c.args.minimum) c.up_to_power-aligned.ensures
+    ∙ up-twice c.args.size (one-bit-power c.args.align c.requires.2) (one-bit-power c.args.minimum c.requires.0) in
+    sym (chunk-lacks c.args.minimum c.args.c c.args.size c.args.align (omega (arith, c.down_to_power-top.ensures, needed-bytes)))
 
 pub returns : goal.returns
-unfolding fast_of
 returns c =
-    let needed-bytes : (let a = c.args in c.up_to_power-needed.result ≡ needed a.minimum a.size a.align) = let a = c.args in
-    c.up_to_power-needed.ensures
-    ∙ ap (λ (n : ℕ). round_up n a.minimum) c.up_to_power-aligned.ensures
-    ∙ up-twice a.size (one-bit-power a.align c.requires.2) (one-bit-power a.minimum c.requires.0) in
-    let a = c.args in
+    let needed-bytes : (c.up_to_power-needed.result ≡ needed c.args.minimum c.args.size c.args.align) = c.up_to_power-needed.ensures
+    ∙ ap (λ (n : ℕ). round_up n c.args.minimum) c.up_to_power-aligned.ensures
+    ∙ up-twice c.args.size (one-bit-power c.args.align c.requires.2) (one-bit-power c.args.minimum c.requires.0) in
     let top = c.down_to_power-top.ensures in
-    ap Room (omega (arith, top, needed-bytes))
-    ∙ sym (ap fast_of (chunk-gives a.minimum a.c a.size a.align (omega (arith, top, needed-bytes))))
+    ap Some (omega (arith, top, needed-bytes))
+    ∙ sym (chunk-gives c.args.minimum c.args.c c.args.size c.args.align (omega (arith, top, needed-bytes)))

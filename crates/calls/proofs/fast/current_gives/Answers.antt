@@ -1,37 +1,25 @@
--- `calls::fast::current_gives` meets its contract: the last held place is the current chunk. Assumes nothing.
-use Prim.Native.Nat.{ℕ}
-use native.Mathlib.Omega.{arith}
-use mathlib.Core.List.{List}
+-- `calls::fast::current_gives` meets its contract: the current chunk is the first of the held ones. Assumes nothing.
 use mathlib.Core.Path.{sym, ◌∙◌, ap}
-use Rattle.arena.specs.declared.Chunk.{Chunk}
-use Rattle.arena.specs.Record.{chunks_of}
-use Rattle.arena.proofs.Soundness.{sound-open}
-use Rattle.arena.proofs.View.{chunks-newest}
-use Rattle.calls.specs.Allocate.{chunk_gives}
-use Rattle.calls.specs.Inner.{fast_of, current_pointer}
-use Rattle.calls.proofs.Giving.{tested-bounds}
+use Rattle.arena.proofs.Current.{none-current, current-is}
+use Rattle.calls.specs.Inner.{current_pointer}
+use Rattle.calls.proofs.Giving.{sound-tested, tested-bounds}
 use Rattle.calls.proofs.fast.current_gives.Goals as goal
 
-pub returns-then-count-eq0 : goal.returns-then-count-eq0
-unfolding fast_of current_pointer chunks_of
-returns-then-count-eq0 c =
-    let a = c.args in
-    sym
-    (ap
-    (λ (k : ℕ). fast_of (current_pointer a.h.minimum (chunks_of a.starts.now a.sizes.now a.pointers.now k) a.size a.align))
-    c.if-count-eq0.true)
-
-pub chunk_at-c-requires : goal.chunk_at-c-requires
-chunk_at-c-requires c = omega (arith, (sound-open _ c.requires.sound).head.count_bound)
+pub returns-in_err-current : goal.returns-in_err-current
+unfolding current_pointer
+returns-in_err-current c =
+    c.from_residual.ensures
+    ∙ sym
+    (ap (λ cs. current_pointer c.args.a.now.lent.head.minimum cs c.args.size c.args.align)
+    (none-current _ (sym c.current.ensures ∙ c.in_err-current.was)))
 
 pub chunk_gives-requires : goal.chunk_gives-requires
-chunk_gives-requires c = tested-bounds c.requires
+chunk_gives-requires c = tested-bounds (sound-tested c.args.a.now.sound c.requires)
 
 pub returns : goal.returns
 unfolding current_pointer
 returns c =
-    let a = c.args in
-    let newest = chunks-newest a.starts.now a.sizes.now a.pointers.now a.h.count (omega arith) in
     c.chunk_gives.ensures
-    ∙ ap (λ (d : Chunk). fast_of (chunk_gives a.h.minimum d a.size a.align)) c.chunk_at-c.ensures
-    ∙ sym (ap (λ (cs : List Chunk). fast_of (current_pointer a.h.minimum cs a.size a.align)) newest)
+    ∙ sym
+    (ap (λ cs. current_pointer c.args.a.now.lent.head.minimum cs c.args.size c.args.align)
+    (current-is _ (sym c.current.ensures ∙ c.in_ok-current.was)).newest)

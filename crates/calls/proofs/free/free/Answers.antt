@@ -1,26 +1,8 @@
 -- `calls::free::free` meets its contract: an unsound record is refused, and the rest is the sound record's. Assumes nothing.
-use mathlib.Core.Bool.{true}
-use mathlib.Core.Path.{◌≡◌, sym, ◌∙◌}
-use Rattle.arena.specs.Sound.{sound_of}
-use Rattle.rounding.proofs.Tests.{taken_false, left-true}
+use mathlib.Core.Path.{sym, ◌∙◌}
 use Rattle.calls.proofs.Freeing.{free-state}
 use Rattle.calls.proofs.free.free.Goals as goal
 
-pub returns-then-not-is_sound : goal.returns-then-not-is_sound
-returns-then-not-is_sound c =
-    c.refused.ensures
-    ∙ sym (free-state c.args.a c.args.offset c.args.size c.args.align (taken_false c.is_sound.ensures c.if-not-is_sound.true))
-
-pub free_ended-ended-requires : goal.free_ended-ended-requires
-free_ended-ended-requires c =
-    let sound : sound_of c.args.a ≡ true = left-true c.is_sound.ensures c.if-not-is_sound.false in
-    sound
-
-pub make-head-requires : goal.make-head-requires
-make-head-requires c =
-    let sound : sound_of c.args.a ≡ true = left-true c.is_sound.ensures c.if-not-is_sound.false in
-    sound
-
-pub returns : goal.returns
-returns c =
-    (λ i. record { answer = c.free_ended-ended.result.answer; arena = c.make-head.ensures i }) ∙ c.free_ended-ended.ensures
+pub returns-in_default : goal.returns-in_default
+returns-in_default c =
+    c.refused.ensures ∙ sym (free-state c.args.a c.args.offset c.args.size c.args.align c.in_default.ensures.unsound)

@@ -1,30 +1,30 @@
 -- `calls::free::free_ended` meets its contract: the block's refusal, or the work on a block that lies in the region. Assumes nothing.
 use mathlib.Core.Path.{sym, ◌∙◌}
-use Rattle.arena.specs.declared.Answer.TheVariants.{Done}
-use Rattle.arena.specs.Record.{record_of}
 use Rattle.calls.proofs.Freeing.{free-block, free-works}
-use Rattle.calls.proofs.Placing.{ended-refused}
+use Rattle.calls.proofs.Placing.{answered-refused}
 use Rattle.calls.proofs.Testing.{tests-refuse, tests-pass, block-passes, block_inside}
 use Rattle.calls.proofs.free.free_ended.Goals as goal
+use Rattle.std.specs.Prelude.{Ok}
+use Rattle.arena.specs.Inner.{lent_of}
 
-pub returns-in-Refused : goal.returns-in-Refused
-returns-in-Refused c =
-    let a = record_of c.args.h c.args.starts.now c.args.sizes.now c.args.pointers.now in
-    ended-refused a c.unended.ensures
+pub returns-in-Err : goal.returns-in-Err
+returns-in-Err c =
+    let a = lent_of c.args.a.now.lent in
+    answered-refused a c.refused.ensures
     ∙ sym
-    (free-block a c.args.offset c.args.size c.args.align c.requires
-    (tests-refuse _ (sym c.in-Refused.is ∙ c.block_answer.ensures)))
+    (free-block a c.args.offset c.args.size c.args.align c.args.a.now.sound
+    (tests-refuse _ (sym c.in-Err.is ∙ c.block_answer.ensures)))
 
-pub free_tested-change-requires : goal.free_tested-change-requires
-free_tested-change-requires c =
-    let a = record_of c.args.h c.args.starts.now c.args.sizes.now c.args.pointers.now in
+pub free_tested-requires : goal.free_tested-requires
+free_tested-requires c =
+    let a = lent_of c.args.a.now.lent in
     let named = block-passes a c.args.offset c.args.size c.args.align (tests-pass _ (sym c.in_default.is ∙ c.block_answer.ensures)) in
-    (c.requires, block_inside a c.args.offset c.args.size c.args.align c.requires named.block)
+    (block_inside a c.args.offset c.args.size c.args.align c.args.a.now.sound named.block)
 
 pub returns : goal.returns
 returns c =
-    let a = record_of c.args.h c.args.starts.now c.args.sizes.now c.args.pointers.now in
-    (λ i. record { answer = Done; arena = c.free_tested-change.ensures i })
+    let a = lent_of c.args.a.now.lent in
+    (λ i. record { answer = Ok tt; arena = c.free_tested.ensures i })
     ∙ sym
-    (free-works a c.args.offset c.args.size c.args.align c.requires
+    (free-works a c.args.offset c.args.size c.args.align c.args.a.now.sound
     (tests-pass _ (sym c.in_default.is ∙ c.block_answer.ensures)))

@@ -9,13 +9,14 @@ use Rattle.rounding.specs.Round.{round_up}
 use Rattle.rounding.proofs.Powers.{power-one-bit}
 use Rattle.rounding.proofs.Tests.{taken_false, left-true}
 use Rattle.arena.specs.declared.Chunk.{Chunk}
-use Rattle.arena.specs.Record.{record_of, held_of, holding}
+use Rattle.arena.specs.Record.{held_of, holding}
 use Rattle.arena.specs.Inner.{moved_to, changed_by}
 use Rattle.arena.proofs.Soundness.{sound-open}
 use Rattle.arena.proofs.View.{holding-held}
 use Rattle.calls.specs.Allocate.{at_pointer}
 use Rattle.calls.specs.Free.{freed}
 use Rattle.calls.proofs.free.free_tested.Goals as goal
+use Rattle.arena.specs.Inner.{lent_of}
 
 -- the definition by the one test that the code makes
 module _ (minimum : ℕ) (cs : List Chunk) (offset size : ℕ) where
@@ -35,30 +36,27 @@ module _ (minimum : ℕ) (cs : List Chunk) (offset size : ℕ) where
       go [] t = refl
       go (c ∷ ds) t = rw t
 
-pub is_at_pointer-requires : goal.is_at_pointer-requires
-is_at_pointer-requires c = (sound-open _ c.requires.0).head.count_bound
-
 pub returns-then-not-is_at_pointer : goal.returns-then-not-is_at_pointer
 unfolding changed_by
 returns-then-not-is_at_pointer c =
-    let a = record_of c.args.h c.args.starts.now c.args.sizes.now c.args.pointers.now in
+    let a = lent_of c.args.a.now.lent in
     let elsewhere = taken_false c.is_at_pointer.ensures c.if-not-is_at_pointer.true in
     sym
     (ap (holding a.head) (freed-elsewhere a.head.minimum (held_of a) c.args.offset c.args.size elsewhere)
-    ∙ holding-held (sound-open a c.requires.0))
+    ∙ holding-held (sound-open a c.args.a.now.sound))
 
 pub overflow_add-offset : goal.overflow_add-offset
-overflow_add-offset c = omega (arith, c.requires.1, (sound-open _ c.requires.0).head.region_bound)
+overflow_add-offset c = omega (arith, c.requires, (sound-open _ c.args.a.now.sound).head.region_bound)
 
 pub up_to_power-requires : goal.up_to_power-requires
 up_to_power-requires c =
-    let head = (sound-open _ c.requires.0).head in
-    (power-one-bit head.minimum-power, omega (arith, c.requires.1, head.region_bound, head.minimum-bound))
+    let head = (sound-open _ c.args.a.now.sound).head in
+    (power-one-bit head.minimum-power, omega (arith, c.requires, head.region_bound, head.minimum-bound))
 
 pub returns : goal.returns
 unfolding changed_by
 returns c =
-    let a = record_of c.args.h c.args.starts.now c.args.sizes.now c.args.pointers.now in
+    let a = lent_of c.args.a.now.lent in
     let there = left-true c.is_at_pointer.ensures c.if-not-is_at_pointer.false in
     ap (λ (p : ℕ). holding a.head (moved_to (held_of a) p)) c.up_to_power.ensures
     ∙ sym (ap (holding a.head) (freed-there a.head.minimum (held_of a) c.args.offset c.args.size there))

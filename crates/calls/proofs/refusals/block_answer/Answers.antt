@@ -6,7 +6,8 @@ use borrow.Author.Tests.{lt-ltb, le-ltb}
 use Rattle.rounding.proofs.Powers.{power-one-bit}
 use Rattle.rounding.proofs.Tests.{taken_false, left-true, true-not, false-not}
 use Rattle.arena.specs.Numbers.{most}
-use Rattle.arena.specs.Record.{chunks_of, record_of}
+use Rattle.arena.specs.Record.{held_of}
+use Rattle.arena.specs.Inner.{lent_of}
 use Rattle.arena.specs.Sound.{allowed_align}
 use Rattle.arena.proofs.Refusing.{refused-now, refused-later, none-applies}
 use Rattle.arena.proofs.Soundness.{align-open, sound-open, sound-ready}
@@ -19,13 +20,13 @@ pub returns-then-size-gt-MOST : goal.returns-then-size-gt-MOST
 unfolding lend_answer
 returns-then-size-gt-MOST c =
     let s = c.args in
-    sym (ap lend_answer (refused-now (size_test s.size) (align_test s.align ∷ (block_test (chunks_of s.starts.now s.sizes.now s.pointers.now s.h.count) s.offset s.size s.align ∷ [])) (lt-ltb most s.size c.if-size-gt-MOST.true)))
+    sym (ap lend_answer (refused-now (size_test s.size) (align_test s.align ∷ (block_test (held_of (lent_of s.a.now.lent)) s.offset s.size s.align ∷ [])) (lt-ltb most s.size c.if-size-gt-MOST.true)))
 
 pub returns-then-not-is_allowed_align : goal.returns-then-not-is_allowed_align
 unfolding lend_answer
 returns-then-not-is_allowed_align c =
     let s = c.args in
-    let rest = block_test (chunks_of s.starts.now s.sizes.now s.pointers.now s.h.count) s.offset s.size s.align ∷ [] in
+    let rest = block_test (held_of (lent_of s.a.now.lent)) s.offset s.size s.align ∷ [] in
     sym
     (ap lend_answer
     (refused-later (size_test s.size) (align_test s.align ∷ rest) (le-ltb most s.size c.if-size-gt-MOST.false)
@@ -35,7 +36,7 @@ pub is_acceptable-requires : goal.is_acceptable-requires
 is_acceptable-requires c =
     let allowed : allowed_align c.args.align ≡ true = left-true c.is_allowed_align.ensures c.if-not-is_allowed_align.false in
     record {
-      ready = sound-ready (sound-open _ c.requires);
+      ready = sound-ready (sound-open _ c.args.a.now.sound);
       align_value = power-one-bit (align-open _ allowed).power;
     }
 
@@ -44,7 +45,7 @@ unfolding lend_answer
 returns-then-not-is_acceptable c =
     let allowed : allowed_align c.args.align ≡ true = left-true c.is_allowed_align.ensures c.if-not-is_allowed_align.false in
     let s = c.args in
-    let block = block_test (chunks_of s.starts.now s.sizes.now s.pointers.now s.h.count) s.offset s.size s.align in
+    let block = block_test (held_of (lent_of s.a.now.lent)) s.offset s.size s.align in
     sym
     (ap lend_answer
     (refused-later (size_test s.size) (align_test s.align ∷ (block ∷ [])) (le-ltb most s.size c.if-size-gt-MOST.false)
@@ -59,4 +60,4 @@ returns c =
     let block = true-not (left-true c.is_acceptable.ensures c.if-not-is_acceptable.false) in
     sym
     (ap lend_answer
-    (none-applies (block_tests (record_of s.h s.starts.now s.sizes.now s.pointers.now) s.offset s.size s.align) (le-ltb most s.size c.if-size-gt-MOST.false, (true-not allowed, (block, tt)))))
+    (none-applies (block_tests (lent_of s.a.now.lent) s.offset s.size s.align) (le-ltb most s.size c.if-size-gt-MOST.false, (true-not allowed, (block, tt)))))

@@ -3,7 +3,7 @@
 use Prim.Native.Nat.{ℕ, ◌≤◌}
 use mathlib.Core.Bool.{Bool, true, false, not, ◌||◌}
 use mathlib.Core.List.{List, [], ◌∷◌}
-use mathlib.Core.Option.{none, some}
+use Rattle.std.specs.Prelude.{None, Some}
 use mathlib.Core.Path.{◌≡◌, sym, ◌∙◌, ap}
 use lib.Dec.{ltb}
 use borrow.Author.Tests.{lt-ltb, le-ltb}
@@ -12,7 +12,8 @@ use Rattle.rounding.proofs.Tests.{taken_false, left-true, true-not, false-not, o
 use Rattle.arena.specs.declared.Arena.{Arena}
 use Rattle.arena.specs.declared.Refusal.TheVariants.{Size, Align, Block, Direction}
 use Rattle.arena.specs.Numbers.{most}
-use Rattle.arena.specs.Record.{held_of, record_of}
+use Rattle.arena.specs.Record.{held_of}
+use Rattle.arena.specs.Inner.{lent_of}
 use Rattle.arena.specs.Refusals.{Test, test, refused_by}
 use Rattle.arena.specs.Sound.{allowed_align}
 use Rattle.arena.proofs.Refusing.{refused-now, refused-later, none-applies}
@@ -29,28 +30,28 @@ module _ (a : Arena) (offset old old_align new new_align : ℕ) (backwards : Boo
   abbrev from_align : List Test
   from_align = aligns_test old_align new_align ∷ from_block
 
-  by_size : (ltb most old || ltb most new) ≡ true → refused_by (change_tests a offset old old_align new new_align backwards) ≡ some Size
+  by_size : (ltb most old || ltb most new) ≡ true → refused_by (change_tests a offset old old_align new new_align backwards) ≡ Some Size
   by_size e = refused-now (sizes_test old new) from_align e
 
   past-size : old ≤ most → new ≤ most → refused_by (change_tests a offset old old_align new new_align backwards) ≡ refused_by from_align
   past-size l m = refused-later (sizes_test old new) from_align (or-neither (le-ltb most old l) (le-ltb most new m))
 
   by-align : old ≤ most → new ≤ most → (not (allowed_align old_align) || not (allowed_align new_align)) ≡ true →
-      refused_by (change_tests a offset old old_align new new_align backwards) ≡ some Align
+      refused_by (change_tests a offset old old_align new new_align backwards) ≡ Some Align
   by-align l m e = past-size l m ∙ refused-now (aligns_test old_align new_align) from_block e
 
   past-align : old ≤ most → new ≤ most → allowed_align old_align ≡ true → allowed_align new_align ≡ true →
       refused_by (change_tests a offset old old_align new new_align backwards) ≡ refused_by from_block
   past-align l m p q = past-size l m ∙ refused-later (aligns_test old_align new_align) from_block (or-neither (true-not p) (true-not q))
 
-  by-block : acceptable (held_of a) offset old old_align ≡ false → refused_by from_block ≡ some Block
+  by-block : acceptable (held_of a) offset old old_align ≡ false → refused_by from_block ≡ Some Block
   by-block e = refused-now (block_test (held_of a) offset old old_align) (test Direction backwards ∷ []) (false-not e)
 
-  by-direction : acceptable (held_of a) offset old old_align ≡ true → backwards ≡ true → refused_by from_block ≡ some Direction
+  by-direction : acceptable (held_of a) offset old old_align ≡ true → backwards ≡ true → refused_by from_block ≡ Some Direction
   by-direction e b =
       refused-later (block_test (held_of a) offset old old_align) (test Direction backwards ∷ []) (true-not e) ∙ refused-now (test Direction backwards) [] b
 
-  by-none : acceptable (held_of a) offset old old_align ≡ true → backwards ≡ false → refused_by from_block ≡ none
+  by-none : acceptable (held_of a) offset old old_align ≡ true → backwards ≡ false → refused_by from_block ≡ None
   by-none e b = none-applies from_block (true-not e, (b, tt))
 
 pub returns-then-old-gt-MOST : goal.returns-then-old-gt-MOST
@@ -59,7 +60,7 @@ returns-then-old-gt-MOST c =
     let s = c.args in
     sym
     (ap lend_answer
-    (by_size (record_of s.h s.starts.now s.sizes.now s.pointers.now) s.offset s.old s.old_align s.new s.new_align s.backwards (or_left (ltb most s.new) (lt-ltb most s.old c.if-old-gt-MOST.true))))
+    (by_size (lent_of s.a.now.lent) s.offset s.old s.old_align s.new s.new_align s.backwards (or_left (ltb most s.new) (lt-ltb most s.old c.if-old-gt-MOST.true))))
 
 pub returns-then-new-gt-MOST : goal.returns-then-new-gt-MOST
 unfolding lend_answer
@@ -67,7 +68,7 @@ returns-then-new-gt-MOST c =
     let s = c.args in
     sym
     (ap lend_answer
-    (by_size (record_of s.h s.starts.now s.sizes.now s.pointers.now) s.offset s.old s.old_align s.new s.new_align s.backwards (or_right (ltb most s.old) (lt-ltb most s.new c.if-new-gt-MOST.true))))
+    (by_size (lent_of s.a.now.lent) s.offset s.old s.old_align s.new s.new_align s.backwards (or_right (ltb most s.old) (lt-ltb most s.new c.if-new-gt-MOST.true))))
 
 pub returns-then-not-is_allowed_align : goal.returns-then-not-is_allowed_align
 unfolding lend_answer
@@ -76,7 +77,7 @@ returns-then-not-is_allowed_align c =
     let off = false-not (taken_false c.is_allowed_align.ensures c.if-not-is_allowed_align.true) in
     sym
     (ap lend_answer
-    (by-align (record_of s.h s.starts.now s.sizes.now s.pointers.now) s.offset s.old s.old_align s.new s.new_align s.backwards c.if-old-gt-MOST.false c.if-new-gt-MOST.false
+    (by-align (lent_of s.a.now.lent) s.offset s.old s.old_align s.new s.new_align s.backwards c.if-old-gt-MOST.false c.if-new-gt-MOST.false
     (or_left (not (allowed_align s.new_align)) off)))
 
 pub returns-then-not-is_allowed_align-2 : goal.returns-then-not-is_allowed_align-2
@@ -86,14 +87,14 @@ returns-then-not-is_allowed_align-2 c =
     let off = false-not (taken_false c.is_allowed_align-2.ensures c.if-not-is_allowed_align-2.true) in
     sym
     (ap lend_answer
-    (by-align (record_of s.h s.starts.now s.sizes.now s.pointers.now) s.offset s.old s.old_align s.new s.new_align s.backwards c.if-old-gt-MOST.false c.if-new-gt-MOST.false
+    (by-align (lent_of s.a.now.lent) s.offset s.old s.old_align s.new s.new_align s.backwards c.if-old-gt-MOST.false c.if-new-gt-MOST.false
     (or_right (not (allowed_align s.old_align)) off)))
 
 pub is_acceptable-requires : goal.is_acceptable-requires
 is_acceptable-requires c =
     let old-allowed : allowed_align c.args.old_align ≡ true = left-true c.is_allowed_align.ensures c.if-not-is_allowed_align.false in
     record {
-      ready = sound-ready (sound-open _ c.requires);
+      ready = sound-ready (sound-open _ c.args.a.now.sound);
       align_value = power-one-bit (align-open _ old-allowed).power;
     }
 
@@ -101,39 +102,39 @@ pub returns-then-not-is_acceptable : goal.returns-then-not-is_acceptable
 unfolding lend_answer
 returns-then-not-is_acceptable c =
     let old-allowed : allowed_align c.args.old_align ≡ true = left-true c.is_allowed_align.ensures c.if-not-is_allowed_align.false in
-    let past : (let s = c.args in refused_by (change_tests (record_of s.h s.starts.now s.sizes.now s.pointers.now) s.offset s.old s.old_align s.new s.new_align s.backwards) ≡ refused_by (block_test (held_of (record_of s.h s.starts.now s.sizes.now s.pointers.now)) s.offset s.old s.old_align ∷ (test Direction s.backwards ∷ []))) = let s = c.args in
-    past-align (record_of s.h s.starts.now s.sizes.now s.pointers.now) s.offset s.old s.old_align s.new s.new_align s.backwards c.if-old-gt-MOST.false c.if-new-gt-MOST.false
+    let past : (let s = c.args in refused_by (change_tests (lent_of s.a.now.lent) s.offset s.old s.old_align s.new s.new_align s.backwards) ≡ refused_by (block_test (held_of (lent_of s.a.now.lent)) s.offset s.old s.old_align ∷ (test Direction s.backwards ∷ []))) = let s = c.args in
+    past-align (lent_of s.a.now.lent) s.offset s.old s.old_align s.new s.new_align s.backwards c.if-old-gt-MOST.false c.if-new-gt-MOST.false
     old-allowed (left-true c.is_allowed_align-2.ensures c.if-not-is_allowed_align-2.false) in
     let s = c.args in
     sym
     (ap lend_answer
     (past
-    ∙ by-block (record_of s.h s.starts.now s.sizes.now s.pointers.now) s.offset s.old s.old_align s.new s.new_align s.backwards (taken_false c.is_acceptable.ensures c.if-not-is_acceptable.true)))
+    ∙ by-block (lent_of s.a.now.lent) s.offset s.old s.old_align s.new s.new_align s.backwards (taken_false c.is_acceptable.ensures c.if-not-is_acceptable.true)))
 
 pub returns-then-backwards : goal.returns-then-backwards
 unfolding lend_answer
 returns-then-backwards c =
     let old-allowed : allowed_align c.args.old_align ≡ true = left-true c.is_allowed_align.ensures c.if-not-is_allowed_align.false in
-    let past : (let s = c.args in refused_by (change_tests (record_of s.h s.starts.now s.sizes.now s.pointers.now) s.offset s.old s.old_align s.new s.new_align s.backwards) ≡ refused_by (block_test (held_of (record_of s.h s.starts.now s.sizes.now s.pointers.now)) s.offset s.old s.old_align ∷ (test Direction s.backwards ∷ []))) = let s = c.args in
-    past-align (record_of s.h s.starts.now s.sizes.now s.pointers.now) s.offset s.old s.old_align s.new s.new_align s.backwards c.if-old-gt-MOST.false c.if-new-gt-MOST.false
+    let past : (let s = c.args in refused_by (change_tests (lent_of s.a.now.lent) s.offset s.old s.old_align s.new s.new_align s.backwards) ≡ refused_by (block_test (held_of (lent_of s.a.now.lent)) s.offset s.old s.old_align ∷ (test Direction s.backwards ∷ []))) = let s = c.args in
+    past-align (lent_of s.a.now.lent) s.offset s.old s.old_align s.new s.new_align s.backwards c.if-old-gt-MOST.false c.if-new-gt-MOST.false
     old-allowed (left-true c.is_allowed_align-2.ensures c.if-not-is_allowed_align-2.false) in
     let s = c.args in
     sym
     (ap lend_answer
     (past
-    ∙ by-direction (record_of s.h s.starts.now s.sizes.now s.pointers.now) s.offset s.old s.old_align s.new s.new_align s.backwards
+    ∙ by-direction (lent_of s.a.now.lent) s.offset s.old s.old_align s.new s.new_align s.backwards
     (left-true c.is_acceptable.ensures c.if-not-is_acceptable.false) c.if-backwards.true))
 
 pub returns : goal.returns
 unfolding lend_answer
 returns c =
     let old-allowed : allowed_align c.args.old_align ≡ true = left-true c.is_allowed_align.ensures c.if-not-is_allowed_align.false in
-    let past : (let s = c.args in refused_by (change_tests (record_of s.h s.starts.now s.sizes.now s.pointers.now) s.offset s.old s.old_align s.new s.new_align s.backwards) ≡ refused_by (block_test (held_of (record_of s.h s.starts.now s.sizes.now s.pointers.now)) s.offset s.old s.old_align ∷ (test Direction s.backwards ∷ []))) = let s = c.args in
-    past-align (record_of s.h s.starts.now s.sizes.now s.pointers.now) s.offset s.old s.old_align s.new s.new_align s.backwards c.if-old-gt-MOST.false c.if-new-gt-MOST.false
+    let past : (let s = c.args in refused_by (change_tests (lent_of s.a.now.lent) s.offset s.old s.old_align s.new s.new_align s.backwards) ≡ refused_by (block_test (held_of (lent_of s.a.now.lent)) s.offset s.old s.old_align ∷ (test Direction s.backwards ∷ []))) = let s = c.args in
+    past-align (lent_of s.a.now.lent) s.offset s.old s.old_align s.new s.new_align s.backwards c.if-old-gt-MOST.false c.if-new-gt-MOST.false
     old-allowed (left-true c.is_allowed_align-2.ensures c.if-not-is_allowed_align-2.false) in
     let s = c.args in
     sym
     (ap lend_answer
     (past
-    ∙ by-none (record_of s.h s.starts.now s.sizes.now s.pointers.now) s.offset s.old s.old_align s.new s.new_align s.backwards
+    ∙ by-none (lent_of s.a.now.lent) s.offset s.old s.old_align s.new s.new_align s.backwards
     (left-true c.is_acceptable.ensures c.if-not-is_acceptable.false) c.if-backwards.false))

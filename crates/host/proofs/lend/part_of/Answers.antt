@@ -1,18 +1,11 @@
 -- `host::lend::part_of` meets its contract: each case of the answer is a clause of the definition. Assumes nothing.
-use mathlib.Core.Path.{sym, ap, ◌∙◌}
-use Rattle.arena.specs.declared.Answer.{Answer}
-use Rattle.host.specs.Said.{said_at, said_part}
+use Rattle.host.specs.Said.{said_part}
 use Rattle.host.proofs.lend.part_of.Goals as goal
 
-pub returns-in-Done : goal.returns-in-Done
+pub returns-in-Ok : goal.returns-in-Ok
 unfolding said_part
-returns-in-Done c =
-    let s = c.args in
-    sym (ap (λ (answer : Answer). said_part answer s.offset s.size) c.in-Done.is)
+returns-in-Ok c = rw c.in-Ok.is
 
-pub returns-in-Refused : goal.returns-in-Refused
+pub returns-in-Err : goal.returns-in-Err
 unfolding said_part
-returns-in-Refused c =
-    let s = c.args in
-    ap (λ n. said_at n 0 0) c.number_of.ensures
-    ∙ sym (ap (λ (answer : Answer). said_part answer s.offset s.size) c.in-Refused.is)
+returns-in-Err c = rw (c.in-Err.is, c.number.ensures.value)

@@ -1,10 +1,12 @@
 -- `requests::machine::finish` meets its contract: the ending and the last line join. Assumes nothing.
 use native.Mathlib.Omega.{arith}
 use mathlib.Core.Bool.{true}
-use mathlib.Core.Path.{◌≡◌, sym, ◌∙◌}
+use mathlib.Core.Path.{◌≡◌, sym, ◌∙◌, ap}
 use borrow.Author.Tests.{le-leb, lt-leb}
 use mathlib.Core.List.{◌++◌}
 use lib.ListN.{length, length-append}
+use Rattle.arena.specs.Record.{held_of}
+use Rattle.arena.specs.Ladder.{held_bytes}
 use Rattle.arena.specs.Sound.{sound_of}
 use Rattle.arena.proofs.Soundness.{sound-open, sound-ready}
 use Rattle.requests.specs.Text.{held_line}
@@ -22,16 +24,14 @@ returns-then-out-lt-END c =
     let a = c.args in
     rw (lt-leb end_room (length a.out.now) c.if-out-lt-END.true) (record { put = put-none a.out.now; upper_bound = omega arith })
 
-pub returns-then-not-is_sound : goal.returns-then-not-is_sound
+pub returns-in_default : goal.returns-in_default
 unfolding final_text
-returns-then-not-is_sound c =
+returns-in_default c =
     let a = c.args in
-    rw (le-leb end_room (length a.out.now) c.if-out-lt-END.false, sym c.is_sound.ensures ∙ c.if-not-is_sound.true) (record { put = put-none a.out.now; upper_bound = omega arith })
+    rw (le-leb end_room (length a.out.now) c.if-out-lt-END.false, c.in_default.ensures.unsound) (record { put = put-none a.out.now; upper_bound = omega arith })
 
 pub held_bytes-held-requires : goal.held_bytes-held-requires
-held_bytes-held-requires c =
-    let sound-said : sound_of c.args.state.arena ≡ true = sym c.is_sound.ensures ∙ c.if-not-is_sound.false in
-    sound-ready (sound-open _ sound-said)
+held_bytes-held-requires c = sound-ready (sound-open _ c.in-Some.sound.sound)
 
 pub put_held-requires : goal.put_held-requires
 put_held-requires c =
@@ -41,14 +41,14 @@ put_held-requires c =
 pub returns : goal.returns
 unfolding final_text held_line
 returns c =
-    let sound-said : sound_of c.args.state.arena ≡ true = sym c.is_sound.ensures ∙ c.if-not-is_sound.false in
+    let sound-said : sound_of c.args.state.arena ≡ true = sym (ap sound_of c.in-Some.ensures.same) ∙ c.in-Some.sound.sound in
     let out = c.args.out.now in
     let a = c.args.state.arena in
     let stage = stage_said c.args.state.stage in
     let n = c.args.state.number in
     let rest = c.args.rest.now in
     let l = ending-length stage n rest in
-    let held : Put c.put_ending-ended.new.out c.put_ending-ended.result (held_line a) c.put_held.new.out c.put_held.result = rw (sym c.held_bytes-held.ensures) c.put_held.ensures in
-    let both : Put out 0 (ending_text stage n rest ++ held_line a) c.put_held.new.out c.put_held.result = put_then (omega (arith, l, c.if-out-lt-END.false)) c.put_ending-ended.ensures held in
+    let held : Put c.put_ending-ended.new.out c.put_ending-ended.result (held_line a) c.put_held.new.out c.put_held.result = rw (sym (c.held_bytes-held.ensures ∙ ap (λ a. held_bytes (held_of a)) c.in-Some.ensures.same)) c.put_held.ensures in
+    let both : Put out 0 (ending_text stage n rest ++ held_line a) c.put_held.new.out c.put_held.result = put_then (omega (arith, c.put_ending-ended.ensures.moved, c.put_ending-ended.auto.out, l, c.if-out-lt-END.false)) c.put_ending-ended.ensures held in
     rw (le-leb end_room (length out) c.if-out-lt-END.false, sound-said)
     (record { put = both; upper_bound = omega (arith, both.moved, length-append (ending_text stage n rest) (held_line a), l, held-length a, c.if-out-lt-END.false, c.put_held.auto.out, c.put_ending-ended.auto.out) })

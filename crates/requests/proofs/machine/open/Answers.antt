@@ -1,5 +1,5 @@
 -- `requests::machine::open` meets its contract: by the tests on the window and the output, and by the header. Assumes nothing.
-use mathlib.Core.Option.{none}
+use Rattle.std.specs.Prelude.{None}
 use mathlib.Core.Path.{refl, sym, ap, ◌∙◌}
 use lib.ListN.{length}
 use Rattle.requests.specs.Machine.{headed}
@@ -22,13 +22,13 @@ pub returns-in_default : goal.returns-in_default
 unfolding headed header_said stage_said
 returns-in_default c lent =
     rw (
-    heading-opens lent c.args.state.number (memory_in c.args.state.arena lent) c.args.window.now (length c.args.out.now) {o = none}
+    heading-opens lent c.args.state.number (memory_in c.args.state.arena lent) c.args.window.now (length c.args.out.now) {o = None}
     c.if-window-lt-HEADER.false c.if-out-lt-LINE.false (sym c.read_header.ensures ∙ ap header_said c.in_default.is)
     )
     (record {
       stage = refl;
       number = refl;
-      memory = no-memory lent c.no_arena-none.result c.no_arena-none.ensures;
+      memory = no-memory lent c.no_arena.result c.no_arena.ensures;
       beyond = refl;
       taken = refl;
       put = c.put_text-written.ensures;
@@ -37,7 +37,7 @@ returns-in_default c lent =
 pub returns : goal.returns
 unfolding headed header_said stage_said
 returns c lent =
-    let said = sym c.read_header.ensures ∙ ap header_said c.in-Good.is in
+    let said = sym c.read_header.ensures ∙ ap header_said c.in-Some.is in
     rw (
     heading-opens lent c.args.state.number (memory_in c.args.state.arena lent) c.args.window.now (length c.args.out.now)
     c.if-window-lt-HEADER.false c.if-out-lt-LINE.false said

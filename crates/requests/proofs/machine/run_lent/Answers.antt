@@ -1,18 +1,8 @@
 -- `requests::machine::run_lent` meets its contract: the region's part is put back before the rest of the lent bytes. Assumes nothing.
-use mathlib.Core.Path.{sym, ◌∙◌}
+use mathlib.Core.Path.{◌∙◌}
 use lib.Seq.{length-take-le}
 use Rattle.requests.proofs.Feeds.{lent-through, through-inside, through-fits}
 use Rattle.requests.proofs.machine.run_lent.Goals as goal
-
-pub slice_bounds-run_window-end-2 : goal.slice_bounds-run_window-end-2
-slice_bounds-run_window-end-2 c =
-    sym (length-take-le c.args.arena.head.region c.args.lent.now c.requires.1)
-
-pub run_window-requires : goal.run_window-requires
-run_window-requires c = record {
-  arena_value = (c.requires.0, length-take-le c.args.arena.head.region c.args.lent.now c.requires.1);
-  window_bound = c.requires.2;
-}
 
 pub returns : goal.returns
 returns c =

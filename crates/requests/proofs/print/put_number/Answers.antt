@@ -4,14 +4,11 @@ use mathlib.Core.Path.{◌∙◌}
 use Rattle.requests.proofs.Decimal.{digits_decimal, fewest-bound}
 use Rattle.requests.proofs.print.put_number.Goals as goal
 
-pub put_text-requires : goal.put_text-requires
-put_text-requires c =
-    let d = c.decimal-k in
-    let bound = fewest-bound d.result _ c.ranges.n.fits d.ensures.len in
-    omega (arith, d.ensures.in_bounds, c.requires)
-
 pub returns : goal.returns
 returns c =
     let d = c.decimal-k in
     let bound = fewest-bound d.result _ c.ranges.n.fits d.ensures.len in
-    rw (← (d.ensures.digits ∙ digits_decimal d.result _ bound d.ensures.len)) c.put_text.ensures
+    record {
+      put = rw (← (d.ensures.digits ∙ digits_decimal d.result _ bound d.ensures.len)) c.put_text.ensures;
+      bound = omega (arith, c.put_text.ensures.moved, d.ensures.in_bounds);
+    }

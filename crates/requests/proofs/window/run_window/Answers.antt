@@ -1,106 +1,58 @@
 -- `requests::window::run_window` meets its contract. The invariant: the bytes taken so far bring the machine to the record, the region and the
 -- number at hand, and to the text written; each turn takes one record more. Assumes nothing.
-use Prim.Native.Nat.{ℕ, ◌+◌, ◌-◌, ◌≤◌}
-use native.Mathlib.Nat.{le_of_eq}
+use Prim.Native.Nat.{◌-◌}
 use native.Mathlib.Omega.{arith}
 use mathlib.Core.Bool.{false}
 use mathlib.Core.Path.{◌≡◌, refl, sym, ap, ◌∙◌}
-use lib.ListN.{length, drop, length-drop}
-use lib.Seq.{take_all}
+use lib.ListN.{length, drop}
+use Rattle.std.proofs.Common.{Result, Ok, Err}
 use Rattle.arena.specs.declared.Arena.{Arena}
 use Rattle.arena.specs.Record.{record_of}
-use Rattle.requests.specs.declared.Request.{Request}
-use Rattle.requests.specs.declared.Front.{Front}
-use Rattle.requests.specs.declared.Front.TheVariants.{Nothing, Part, Bad, Whole}
-use Rattle.requests.specs.Front.{whole, front_of}
+use Rattle.requests.specs.declared.Record.{Record}
+use Rattle.requests.specs.declared.Ending.{Ending}
+use Rattle.requests.specs.declared.Ending.TheVariants.{Complete, CutOff, BadRecord}
+use Rattle.requests.specs.Front.{front_of}
 use Rattle.requests.specs.Inner.{request_said, front_said, reply_said, ran_said}
 use Rattle.requests.specs.Run.{ran_to, run_in}
-use Rattle.requests.proofs.Settling.{whole-size}
 use Rattle.requests.specs.Window.{memory_of}
-use Rattle.requests.proofs.Stepping.{is_whole, stops-by-front, stops-by-room, reached-start, reached-step, reached-end}
+use Rattle.requests.proofs.Stepping.{is_whole, stops-by-front, stops-by-room, not_taken, found, reached-start, reached-step, reached-end}
 use Rattle.requests.proofs.window.run_window.Goals as goal
 
 pub loop-out-init : goal.loop-out-init
 loop-out-init c =
     (reached-start c.args.number c.args.arena c.args.region.now c.args.window.now c.args.out.now c.requires.arena_value.0 c.requires.arena_value.1, refl)
 
-pub run-ran-requires : goal.run-ran-requires
-run-ran-requires c = let r = c.loop-out.invariant.0 in (r.sound, r.region)
-
-pub make-head-requires : goal.make-head-requires
-make-head-requires c = c.loop-out.invariant.0.sound
-
-pub put_line-written-requires : goal.put_line-written-requires
-put_line-written-requires c =
-    omega (arith, c.loop-out-test.true, c.loop-out.invariant.0.fits)
-
 pub overflow_add-taken : goal.overflow_add-taken
 unfolding front_said
 overflow_add-taken c =
-    let found : front_of (drop c.loop-out.taken c.args.window.now) ≡ whole c.in-Whole.size (request_said c.in-Whole.request) = let taken = c.loop-out.taken in
-    let window = c.args.window.now in
-    sym (ap front_of (take_all (length window - taken) (drop taken window) (le_of_eq (length-drop taken window))))
-    ∙ sym c.read_front.ensures
-    ∙ ap front_said c.in-Whole.is in
-    let record-inside : (2 ≤ c.in-Whole.size) × (c.loop-out.taken + c.in-Whole.size ≤ length c.args.window.now) = let taken = c.loop-out.taken in
-    let window = c.args.window.now in
-    let w = whole-size (drop taken window) found in
-    (w.0, omega (arith, length-drop taken window, c.loop-out.invariant.0.inside)) in
-    let i = record-inside in
-    omega (arith, c.requires.window_bound)
+    let f = found c.args.window.now c.loop-out.taken c.loop-out.invariant.0.inside c.in-Ok.ensures in
+    omega (arith, f.inside, c.requires.window_bound)
 
 pub overflow_add-next : goal.overflow_add-next
 unfolding front_said
 overflow_add-next c =
-    let found : front_of (drop c.loop-out.taken c.args.window.now) ≡ whole c.in-Whole.size (request_said c.in-Whole.request) = let taken = c.loop-out.taken in
-    let window = c.args.window.now in
-    sym (ap front_of (take_all (length window - taken) (drop taken window) (le_of_eq (length-drop taken window))))
-    ∙ sym c.read_front.ensures
-    ∙ ap front_said c.in-Whole.is in
-    let record-inside : (2 ≤ c.in-Whole.size) × (c.loop-out.taken + c.in-Whole.size ≤ length c.args.window.now) = let taken = c.loop-out.taken in
-    let window = c.args.window.now in
-    let w = whole-size (drop taken window) found in
-    (w.0, omega (arith, length-drop taken window, c.loop-out.invariant.0.inside)) in
-    let i = record-inside in
-    omega (arith, c.requires.window_bound, c.loop-out.invariant.0.counted)
+    let f = found c.args.window.now c.loop-out.taken c.loop-out.invariant.0.inside c.in-Ok.ensures in
+    omega (arith, f.some, f.inside, c.requires.window_bound, c.loop-out.invariant.0.counted)
 
 pub loop-out-smaller : goal.loop-out-smaller
 unfolding front_said
 loop-out-smaller c =
-    let found : front_of (drop c.loop-out.taken c.args.window.now) ≡ whole c.in-Whole.size (request_said c.in-Whole.request) = let taken = c.loop-out.taken in
-    let window = c.args.window.now in
-    sym (ap front_of (take_all (length window - taken) (drop taken window) (le_of_eq (length-drop taken window))))
-    ∙ sym c.read_front.ensures
-    ∙ ap front_said c.in-Whole.is in
-    let record-inside : (2 ≤ c.in-Whole.size) × (c.loop-out.taken + c.in-Whole.size ≤ length c.args.window.now) = let taken = c.loop-out.taken in
-    let window = c.args.window.now in
-    let w = whole-size (drop taken window) found in
-    (w.0, omega (arith, length-drop taken window, c.loop-out.invariant.0.inside)) in
-    let i = record-inside in omega arith
+    let f = found c.args.window.now c.loop-out.taken c.loop-out.invariant.0.inside c.in-Ok.ensures in
+    omega (arith, f.some, f.inside)
 
 pub loop-out-preserved : goal.loop-out-preserved
 unfolding front_said ran_said
 loop-out-preserved c =
     let own : Arena = record_of c.loop-out.head c.loop-out.starts c.loop-out.sizes c.loop-out.pointers in
-    let found : front_of (drop c.loop-out.taken c.args.window.now) ≡ whole c.in-Whole.size (request_said c.in-Whole.request) = let taken = c.loop-out.taken in
-    let window = c.args.window.now in
-    sym (ap front_of (take_all (length window - taken) (drop taken window) (le_of_eq (length-drop taken window))))
-    ∙ sym c.read_front.ensures
-    ∙ ap front_said c.in-Whole.is in
-    let after : ran_to (reply_said c.run-ran.result.reply) (record_of c.make-head.result c.make-head.new.starts c.make-head.new.sizes c.make-head.new.pointers) c.run-ran.new.region ≡ run_in (request_said c.in-Whole.request) own c.loop-out.region = ap (λ (b : Arena). ran_to (reply_said c.run-ran.result.reply) b c.run-ran.new.region) c.make-head.ensures ∙ c.run-ran.ensures in (
+    let f = found c.args.window.now c.loop-out.taken c.loop-out.invariant.0.inside c.in-Ok.ensures in
+    let after : ran_to (reply_said c.run-ran.result.reply) (record_of c.make-head.result c.make-head.new.starts c.make-head.new.sizes c.make-head.new.pointers) c.run-ran.new.region ≡ run_in (request_said c.in-Ok.record.request) own c.loop-out.region = ap (λ (b : Arena). ran_to (reply_said c.run-ran.result.reply) b c.run-ran.new.region) c.make-head.ensures ∙ c.run-ran.ensures in (
       reached-step c.args.number (memory_of c.args.arena c.args.region.now) c.args.window.now c.args.out.now own c.loop-out.next
-          c.loop-out.taken c.loop-out.written c.loop-out.region c.loop-out.out c.loop-out.invariant.0 c.in-Whole.size (request_said c.in-Whole.request) (reply_said c.run-ran.result.reply)
-          (record_of c.make-head.result c.make-head.new.starts c.make-head.new.sizes c.make-head.new.pointers) c.run-ran.new.region c.put_line-written.new.out c.put_line-written.result found
+          c.loop-out.taken c.loop-out.written c.loop-out.region c.loop-out.out c.loop-out.invariant.0 c.in-Ok.record.size (request_said c.in-Ok.record.request) (reply_said c.run-ran.result.reply)
+          (record_of c.make-head.result c.make-head.new.starts c.make-head.new.sizes c.make-head.new.pointers) c.run-ran.new.region c.put_line-written.new.out c.put_line-written.result f.front
           after c.run-ran.auto.region
           (omega (arith, c.loop-out-test.true, c.loop-out.invariant.0.fits)) c.put_line-written.ensures,
       c.run-ran.auto.region ∙ c.loop-out.invariant.1,
     )
-
-pub shape_of-region-after-loop-out : goal.shape_of-region-after-loop-out
-shape_of-region-after-loop-out c = c.loop-out.invariant.1
-
-pub shape_of-out-after-loop-out : goal.shape_of-out-after-loop-out
-shape_of-out-after-loop-out c = c.loop-out.invariant.0.same
 
 -- the output has no room for a line
 pub returns-after-loop-out : goal.returns-after-loop-out
@@ -112,19 +64,13 @@ returns-after-loop-out c =
     (stops-by-room l.invariant.0.turns (length c.args.out.now - l.written) l.next (memory_of own l.region) (drop l.taken c.args.window.now)
     (omega (arith, l.invariant.0.same, c.loop-out-test.false)))
 
-pub shape_of-region-in_default : goal.shape_of-region-in_default
-shape_of-region-in_default c = c.loop-out.invariant.1
-
-pub shape_of-out-in_default : goal.shape_of-out-in_default
-shape_of-out-in_default c = c.loop-out.invariant.0.same
-
 -- a front that is not opened is not whole
-not-whole : (f : Front) → ((size : ℕ) (r : Request) → f ≡ Whole size r → ⊥) → is_whole (front_said f) ≡ false
+not-whole : (f : Result Record Ending) → ((r : Record) → f ≡ Ok r → ⊥) → is_whole (front_said f) ≡ false
 unfolding front_said
-not-whole Nothing other = refl
-not-whole Part other = refl
-not-whole Bad other = refl
-not-whole (Whole size r) other = absurd (other size r refl)
+not-whole (Ok r) other = absurd (other r refl)
+not-whole (Err Complete) other = refl
+not-whole (Err CutOff) other = refl
+not-whole (Err BadRecord) other = refl
 
 pub returns-in_default : goal.returns-in_default
 returns-in_default c =
@@ -134,4 +80,4 @@ returns-in_default c =
     reached-end c.args.number (memory_of c.args.arena c.args.region.now) window c.args.out.now own l.next
     l.taken l.written l.region l.out l.invariant.0
     (stops-by-front l.invariant.0.turns (length c.args.out.now - l.written) l.next (memory_of own l.region) (drop l.taken window)
-    (sym (ap is_whole (c.read_front.ensures ∙ ap front_of (take_all (length window - l.taken) (drop l.taken window) (le_of_eq (length-drop l.taken window))))) ∙ not-whole _ c.in_default.not-Whole))
+    (sym (ap is_whole (c.read_front.ensures ∙ ap front_of (not_taken window l.taken))) ∙ not-whole _ c.in_default.not-Ok))

@@ -2,35 +2,36 @@
 use mathlib.Core.Path.{refl, sym, ◌∙◌, ap}
 use Rattle.rounding.proofs.Tests.{left-true}
 use Rattle.arena.specs.declared.Arena.{Arena}
-use Rattle.arena.specs.Record.{record_of, held_of}
+use Rattle.arena.specs.Record.{held_of}
+use Rattle.arena.specs.Inner.{lent_of}
 use Rattle.arena.specs.Sound.{allowed_align}
 use Rattle.calls.specs.Inner.{LastBlock, GrowTested}
-use Rattle.calls.proofs.Cases.{fast-room, full-no-room}
+use Rattle.std.proofs.lemmas.Option.{none-some}
 use Rattle.calls.proofs.Growing.{grown-moved, grows-in-place}
 use Rattle.calls.proofs.Placing.{placed-moved}
 use Rattle.calls.proofs.Last.{last-grows}
 use Rattle.reshape.proofs.grow.grow_fast.Goals as goal
 
 pub returns-then-new-old : goal.returns-then-new-old
-returns-then-new-old c = λ p e. full-no-room e
+returns-then-new-old c = λ p e. absurd (none-some p e)
 
 pub returns-then-new-gt-MOST : goal.returns-then-new-gt-MOST
-returns-then-new-gt-MOST c = λ p e. full-no-room e
+returns-then-new-gt-MOST c = λ p e. absurd (none-some p e)
 
 pub returns-then-new_align-old_align : goal.returns-then-new_align-old_align
-returns-then-new_align-old_align c = λ p e. full-no-room e
+returns-then-new_align-old_align c = λ p e. absurd (none-some p e)
 
 pub returns-then-not-is_last_block : goal.returns-then-not-is_last_block
-returns-then-not-is_last_block c = λ p e. full-no-room e
+returns-then-not-is_last_block c = λ p e. absurd (none-some p e)
 
 pub in_place-requires : goal.in_place-requires
 in_place-requires c =
-    let own : Arena = record_of c.args.h c.args.starts.now c.args.sizes.now c.args.pointers.now in
+    let own : Arena = lent_of c.args.a.now.lent in
     let last : (let s = c.args in LastBlock own s.offset s.old s.old_align) = c.is_last_block.ensures (left-true refl c.if-not-is_last_block.false) in
     let tested : (let s = c.args in GrowTested own s.old s.old_align s.new s.new_align) = record {
       request =
           record {
-            sound = c.requires;
+            sound = c.args.a.now.sound;
             size_bound = c.if-new-gt-MOST.false;
             align_allowed = ap allowed_align c.if-new_align-old_align.false ∙ last.align_allowed;
           };
@@ -41,12 +42,12 @@ in_place-requires c =
 
 pub returns : goal.returns
 returns c =
-    let own : Arena = record_of c.args.h c.args.starts.now c.args.sizes.now c.args.pointers.now in
+    let own : Arena = lent_of c.args.a.now.lent in
     let last : (let s = c.args in LastBlock own s.offset s.old s.old_align) = c.is_last_block.ensures (left-true refl c.if-not-is_last_block.false) in
     let tested : (let s = c.args in GrowTested own s.old s.old_align s.new s.new_align) = record {
       request =
           record {
-            sound = c.requires;
+            sound = c.args.a.now.sound;
             size_bound = c.if-new-gt-MOST.false;
             align_allowed = ap allowed_align c.if-new_align-old_align.false ∙ last.align_allowed;
           };
@@ -56,7 +57,7 @@ returns c =
     λ p e.
     let s = c.args in
     let a = own in
-    let room = fast-room _ (sym e ∙ c.in_place.ensures) in
+    let room = sym c.in_place.ensures ∙ e in
     placed-moved a
     (grows-in-place a.head (held_of a) s.offset s.old s.old_align s.new s.new_align
     (grown-moved a.head.minimum (held_of a) s.offset s.old s.old_align s.new s.new_align room))

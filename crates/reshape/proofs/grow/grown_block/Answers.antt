@@ -1,32 +1,32 @@
 -- `reshape::grow::grown_block` meets its contract: the pointer in place moves, or else the block is a fresh one. Assumes nothing.
-use mathlib.Core.Option.{none}
+use Rattle.std.specs.Prelude.{None}
 use mathlib.Core.Path.{refl, sym, ◌∙◌, ap}
-use Rattle.arena.specs.Record.{record_of, held_of}
+use Rattle.arena.specs.Record.{held_of}
+use Rattle.arena.specs.Inner.{lent_of}
 use Rattle.calls.specs.Allocate.{given}
-use Rattle.calls.proofs.Cases.{fast-room, fast-full}
+use Rattle.calls.specs.Inner.{answered_of}
 use Rattle.calls.proofs.Growing.{grown-lacks, grown-moved, grows-in-place, grows-afresh}
 use Rattle.calls.proofs.Placing.{placed-moved}
 use Rattle.calls.proofs.Requests.{allocate-works}
 use Rattle.reshape.proofs.grow.grown_block.Goals as goal
 
-pub allocate_in_full-requires : goal.allocate_in_full-requires
-allocate_in_full-requires c = c.requires.request.sound
 
 pub returns-in_default : goal.returns-in_default
 returns-in_default c =
-    let a = record_of c.args.h c.args.starts.now c.args.sizes.now c.args.pointers.now in
-    let full = fast-full _ (sym c.in_default.is ∙ c.in_place.ensures) in
+    let a = lent_of c.args.a.now.lent in
+    let full = sym c.in_place.ensures ∙ c.in_default.is in
     c.allocate_in_full.ensures
     ∙ allocate-works a _ c.args.new c.args.new_align refl c.requires.request
     ∙ sym
-    (ap (given none a)
+    (ap (given None a)
     (grows-afresh a.head (held_of a) c.args.offset c.args.old c.args.old_align c.args.new c.args.new_align
     (grown-lacks a.head.minimum (held_of a) c.args.offset c.args.old c.args.old_align c.args.new c.args.new_align full)))
 
 pub returns : goal.returns
 returns c =
-    let a = record_of c.args.h c.args.starts.now c.args.sizes.now c.args.pointers.now in
-    let room = fast-room _ (sym c.in-Room.is ∙ c.in_place.ensures) in
-    placed-moved a
+    let a = lent_of c.args.a.now.lent in
+    let room = sym c.in_place.ensures ∙ c.in-Some.is in
+    ap (answered_of a) c.moved.ensures
+    ∙ placed-moved a
     (grows-in-place a.head (held_of a) c.args.offset c.args.old c.args.old_align c.args.new c.args.new_align
     (grown-moved a.head.minimum (held_of a) c.args.offset c.args.old c.args.old_align c.args.new c.args.new_align room))

@@ -9,30 +9,27 @@ use Rattle.rounding.proofs.Powers.{power-positive, power-one-bit, two-to-the, po
 use Rattle.rounding.proofs.Rounding.{up-at-least, up_least}
 use Rattle.rounding.proofs.Tests.{taken_false, left-true}
 use Rattle.arena.specs.Numbers.{most}
-use Rattle.arena.specs.Record.{chunks_of}
+use Rattle.arena.specs.Record.{held_of}
+use Rattle.arena.specs.Inner.{lent_of}
 use Rattle.arena.proofs.Soundness.{sound-open}
-use Rattle.calls.specs.Inner.{fast_of, current_pointer}
+use Rattle.calls.specs.Inner.{current_pointer}
 use Rattle.calls.proofs.Growing.{not-to-higher, not-elsewhere, there}
 use Rattle.reshape.proofs.grow.in_place.Goals as goal
 
 pub returns-then-old_align-new_align : goal.returns-then-old_align-new_align
-unfolding fast_of
 returns-then-old_align-new_align c =
-    let held : List Chunk = chunks_of c.args.starts.now c.args.sizes.now c.args.pointers.now c.args.h.count in
+    let held : List Chunk = held_of (lent_of c.args.a.now.lent) in
     let s = c.args in
-    sym (ap fast_of (not-to-higher s.h.minimum held s.offset s.old s.old_align s.new s.new_align c.if-old_align-new_align.true))
+    sym ( (not-to-higher s.a.now.lent.head.minimum held s.offset s.old s.old_align s.new s.new_align c.if-old_align-new_align.true))
 
-pub is_at_pointer-requires : goal.is_at_pointer-requires
-is_at_pointer-requires c = (sound-open _ c.requires.request.sound).head.count_bound
 
 pub returns-then-not-is_at_pointer : goal.returns-then-not-is_at_pointer
-unfolding fast_of
 returns-then-not-is_at_pointer c =
-    let held : List Chunk = chunks_of c.args.starts.now c.args.sizes.now c.args.pointers.now c.args.h.count in
+    let held : List Chunk = held_of (lent_of c.args.a.now.lent) in
     let s = c.args in
     sym
-    (ap fast_of
-    (not-elsewhere s.h.minimum held s.offset s.old s.old_align s.new s.new_align
+    (
+    (not-elsewhere s.a.now.lent.head.minimum held s.offset s.old s.old_align s.new s.new_align
     (taken_false c.is_at_pointer.ensures c.if-not-is_at_pointer.true)))
 
 pub up_to_power-requires : goal.up_to_power-requires
@@ -43,26 +40,22 @@ up_to_power-requires c =
 
 pub overflow_sub-more : goal.overflow_sub-more
 overflow_sub-more c =
-    let head = (sound-open _ c.requires.request.sound).head in
-    omega (arith, c.up_to_power.ensures, c.requires.upwards, up-at-least c.args.new c.args.h.minimum (power-positive head.minimum-power))
+    let head = (sound-open _ c.args.a.now.sound).head in
+    omega (arith, c.up_to_power.ensures, c.requires.upwards, up-at-least c.args.new c.args.a.now.lent.head.minimum (power-positive head.minimum-power))
 
 pub current_gives-requires : goal.current_gives-requires
 current_gives-requires c =
-    let head = (sound-open _ c.requires.request.sound).head in
-    let even : c.args.h.minimum ∣ most = power_divides head.minimum-power (two-to-the 30) (omega (arith, head.minimum-bound)) in
-    record {
-      sound = c.requires.request.sound;
-      size_bound = omega (arith, c.up_to_power.ensures, up_least c.args.new c.args.h.minimum even c.requires.request.size_bound);
-      align_allowed = c.requires.old_align_allowed;
-    }
+    let head = (sound-open _ c.args.a.now.sound).head in
+    let even : c.args.a.now.lent.head.minimum ∣ most = power_divides head.minimum-power (two-to-the 30) (omega (arith, head.minimum-bound)) in
+    (omega (arith, c.up_to_power.ensures, up_least c.args.new c.args.a.now.lent.head.minimum even c.requires.request.size_bound), c.requires.old_align_allowed)
 
 pub returns : goal.returns
 returns c =
-    let held : List Chunk = chunks_of c.args.starts.now c.args.sizes.now c.args.pointers.now c.args.h.count in
+    let held : List Chunk = held_of (lent_of c.args.a.now.lent) in
     let s = c.args in
     c.current_gives.ensures
-    ∙ ap (λ (top : ℕ). fast_of (current_pointer s.h.minimum held (top - s.old) s.old_align)) c.up_to_power.ensures
+    ∙ ap (λ (top : ℕ). (current_pointer s.a.now.lent.head.minimum held (top - s.old) s.old_align)) c.up_to_power.ensures
     ∙ sym
-    (ap fast_of
-    (there s.h.minimum held s.offset s.old s.old_align s.new s.new_align c.if-old_align-new_align.false
+    (
+    (there s.a.now.lent.head.minimum held s.offset s.old s.old_align s.new s.new_align c.if-old_align-new_align.false
     (left-true c.is_at_pointer.ensures c.if-not-is_at_pointer.false)))

@@ -9,90 +9,91 @@ use Rattle.rounding.proofs.Rounding.{down-at-most}
 use Rattle.rounding.proofs.Tests.{left-true}
 use Rattle.arena.specs.declared.Arena.{Arena}
 use Rattle.arena.specs.declared.change.Change.TheVariants.{Moved}
-use Rattle.arena.specs.Record.{record_of, held_of}
+use Rattle.arena.specs.Record.{held_of}
+use Rattle.arena.specs.Inner.{lent_of}
 use Rattle.arena.specs.Sound.{allowed_align}
 use Rattle.arena.proofs.Soundness.{align-open, sound-open}
-use Rattle.calls.specs.declared.Given.TheVariants.{At}
-use Rattle.calls.specs.Inner.{LastBlock, ShrinkTested, placed_of}
+use Rattle.calls.specs.Inner.{LastBlock, ShrinkTested, answered_of}
 use Rattle.calls.specs.Shrink.{given_up, shrink_of, shrunk_in_place}
-use Rattle.calls.proofs.Cases.{full-no-room, room-same}
+use Rattle.std.proofs.lemmas.Option.{none-some, same_Some}
 use Rattle.calls.proofs.Last.{last-shrinks}
 use Rattle.calls.proofs.Placing.{placed-moved}
 use Rattle.calls.proofs.Shrinking.{goes-up, shrinks-in-place}
 use Rattle.calls.proofs.Testing.{block_inside}
 use Rattle.reshape.proofs.shrink.shrink_fast.Goals as goal
+use Rattle.std.specs.Prelude.{Ok}
 
 pub returns-then-old-new : goal.returns-then-old-new
-returns-then-old-new c = λ p e. full-no-room e
+returns-then-old-new c = λ p e. absurd (none-some p e)
 
 pub returns-then-new_align-old_align : goal.returns-then-new_align-old_align
-returns-then-new_align-old_align c = λ p e. full-no-room e
+returns-then-new_align-old_align c = λ p e. absurd (none-some p e)
 
 pub returns-then-not-is_last_block : goal.returns-then-not-is_last_block
-returns-then-not-is_last_block c = λ p e. full-no-room e
+returns-then-not-is_last_block c = λ p e. absurd (none-some p e)
 
 pub down_to_power-d-requires : goal.down_to_power-d-requires
 down_to_power-d-requires c =
-    let own : Arena = record_of c.args.h c.args.starts.now c.args.sizes.now c.args.pointers.now in
+    let own : Arena = lent_of c.args.a.now.lent in
     let last : (let s = c.args in LastBlock own s.offset s.old s.old_align) = c.is_last_block.ensures (left-true refl c.if-not-is_last_block.false) in
     let tested : (let s = c.args in ShrinkTested own s.offset s.old s.new s.new_align) = let s = c.args in
     record {
       request =
           record {
-            sound = c.requires;
+            sound = c.args.a.now.sound;
             size_bound = omega (arith, c.if-old-new.false, last.size_bound);
             align_allowed = ap allowed_align c.if-new_align-old_align.false ∙ last.align_allowed;
           };
-      inside = block_inside own s.offset s.old s.old_align c.requires last.block;
+      inside = block_inside own s.offset s.old s.old_align c.args.a.now.sound last.block;
       downwards = c.if-old-new.false;
     } in
     let r = tested.request in
-    ap one_bit c.larger.ensures ∙ power-one-bit (power-max (align-open _ r.align_allowed).power (sound-open _ r.sound).head.minimum-power)
+    ap one_bit c.max.ensures ∙ power-one-bit (power-max (align-open _ r.align_allowed).power (sound-open _ r.sound).head.minimum-power)
 
 pub overflow_add-d : goal.overflow_add-d
 overflow_add-d c =
-    let own : Arena = record_of c.args.h c.args.starts.now c.args.sizes.now c.args.pointers.now in
+    let own : Arena = lent_of c.args.a.now.lent in
     let last : (let s = c.args in LastBlock own s.offset s.old s.old_align) = c.is_last_block.ensures (left-true refl c.if-not-is_last_block.false) in
     let at_most : c.down_to_power-d.result ≤ c.args.old = let s = c.args in
-    omega (arith, c.down_to_power-d.ensures, down-at-most (s.old - s.new) c.larger.result) in
+    omega (arith, c.down_to_power-d.ensures, down-at-most (s.old - s.new) c.max.result) in
     omega (arith, at_most, last.size_bound)
 
 pub returns-then-d-old : goal.returns-then-d-old
-returns-then-d-old c = λ p e. full-no-room e
+returns-then-d-old c = λ p e. absurd (none-some p e)
 
 pub overflow_add-result : goal.overflow_add-result
 overflow_add-result c =
-    let own : Arena = record_of c.args.h c.args.starts.now c.args.sizes.now c.args.pointers.now in
+    let own : Arena = lent_of c.args.a.now.lent in
     let last : (let s = c.args in LastBlock own s.offset s.old s.old_align) = c.is_last_block.ensures (left-true refl c.if-not-is_last_block.false) in
     let tested : (let s = c.args in ShrinkTested own s.offset s.old s.new s.new_align) = let s = c.args in
     record {
       request =
           record {
-            sound = c.requires;
+            sound = c.args.a.now.sound;
             size_bound = omega (arith, c.if-old-new.false, last.size_bound);
             align_allowed = ap allowed_align c.if-new_align-old_align.false ∙ last.align_allowed;
           };
-      inside = block_inside own s.offset s.old s.old_align c.requires last.block;
+      inside = block_inside own s.offset s.old s.old_align c.args.a.now.sound last.block;
       downwards = c.if-old-new.false;
     } in
     let at_most : c.down_to_power-d.result ≤ c.args.old = let s = c.args in
-    omega (arith, c.down_to_power-d.ensures, down-at-most (s.old - s.new) c.larger.result) in
+    omega (arith, c.down_to_power-d.ensures, down-at-most (s.old - s.new) c.max.result) in
     let t = tested in
     omega (arith, at_most, t.inside, (sound-open _ t.request.sound).head.region_bound)
 
 pub returns : goal.returns
 returns c =
-    let own : Arena = record_of c.args.h c.args.starts.now c.args.sizes.now c.args.pointers.now in
+    let own : Arena = lent_of c.args.a.now.lent in
     let last : (let s = c.args in LastBlock own s.offset s.old s.old_align) = c.is_last_block.ensures (left-true refl c.if-not-is_last_block.false) in
     let tested : (let s = c.args in ShrinkTested own s.offset s.old s.new s.new_align) = let s = c.args in
     record {
       request =
           record {
-            sound = c.requires;
+            sound = c.args.a.now.sound;
             size_bound = omega (arith, c.if-old-new.false, last.size_bound);
             align_allowed = ap allowed_align c.if-new_align-old_align.false ∙ last.align_allowed;
           };
-      inside = block_inside own s.offset s.old s.old_align c.requires last.block;
+      inside = block_inside own s.offset s.old s.old_align c.args.a.now.sound last.block;
       downwards = c.if-old-new.false;
     } in
     λ p e.
@@ -100,8 +101,8 @@ returns c =
     let a = own in
     let d = c.down_to_power-d.result in
     let up : d ≡ given_up a.head.minimum s.old s.new s.new_align =
-    c.down_to_power-d.ensures ∙ ap (round_down (s.old - s.new)) c.larger.ensures in
-    subst (λ (q : ℕ). placed_of a (record { answer = At q; change = Moved q }) ≡ shrink_of a a.head.region s.offset s.old s.old_align s.new s.new_align) (room-same e)
+    c.down_to_power-d.ensures ∙ ap (round_down (s.old - s.new)) c.max.ensures in
+    subst (λ (q : ℕ). answered_of a (record { answer = Ok q; change = Moved q }) ≡ shrink_of a a.head.region s.offset s.old s.old_align s.new s.new_align) (same_Some _ _ e)
     (placed-moved a
     (shrinks-in-place a.head (held_of a) s.offset s.old s.old_align s.new s.new_align (omega (arith, c.if-new_align-old_align.false))
     ∙ sym (ap (shrunk_in_place (held_of a) s.offset s.old) up)

@@ -2,19 +2,19 @@
 -- Assumes nothing.
 use Prim.Native.Nat.{ℕ}
 use native.Mathlib.Omega.{arith}
-use mathlib.Core.Option.{none}
+use Rattle.std.specs.Prelude.{None}
 use mathlib.Core.Path.{◌≡◌, sym, ◌∙◌, ap}
 use lib.Dec.{ltb}
 use lib.ListN.{length}
 use Rattle.arena.specs.declared.Arena.{Arena}
-use Rattle.arena.specs.Record.{record_of, held_of}
-use Rattle.arena.specs.Refusals.{refused_by}
-use Rattle.calls.specs.declared.Allocation.{Allocation}
-use Rattle.calls.specs.declared.Placed.{Placed}
+use Rattle.arena.specs.Record.{held_of}
+use Rattle.arena.specs.Inner.{lent_of}
+use Rattle.arena.specs.Refusals.{refused_by, Allocation}
+use Rattle.calls.specs.declared.Answered.{Answered}
 use Rattle.calls.specs.Allocate.{given}
 use Rattle.calls.specs.Bytes.{carried, after_given}
 use Rattle.calls.specs.Shrink.{shrink_in, shrink_tests, shrink_of, shrink_bytes}
-use Rattle.calls.specs.Inner.{placed_of, lent_tests, change_tests}
+use Rattle.calls.specs.Inner.{answered_of, lent_tests, change_tests}
 use Rattle.calls.proofs.Answering.{stopped-later, bytes-shown}
 use Rattle.calls.proofs.Changing.{lent-own, shrink-tested, shrink-served}
 use Rattle.calls.proofs.Passing.{shrink-passes}
@@ -22,31 +22,29 @@ use Rattle.calls.proofs.Placing.{placed-refused}
 use Rattle.calls.proofs.Testing.{passed-before, tests-refuse, tests-pass}
 use Rattle.reshape.proofs.shrink.shrink_in_full.Goals as goal
 
-pub change_answer-requires : goal.change_answer-requires
-change_answer-requires c = c.requires.0
 
-pub returns-in-Refused : goal.returns-in-Refused
+pub returns-in-Err : goal.returns-in-Err
 unfolding shrink_bytes given after_given shrink_of
-returns-in-Refused c =
-    let own : Arena = record_of c.args.h c.args.starts.now c.args.sizes.now c.args.pointers.now in
-    let stopped : (let s = c.args in placed_of own c.nowhere.result ≡ shrink_of own (length s.region.now) s.offset s.old s.old_align s.new s.new_align) = let s = c.args in
-    placed-refused own c.nowhere.ensures
+returns-in-Err c =
+    let own : Arena = lent_of c.args.a.now.lent in
+    let stopped : (let s = c.args in answered_of own c.refused.result ≡ shrink_of own (length s.region.now) s.offset s.old s.old_align s.new s.new_align) = let s = c.args in
+    placed-refused own c.refused.ensures
     ∙ sym
     (stopped-later own (lent_tests own (length s.region.now)) (change_tests own s.offset s.old s.old_align s.new s.new_align (ltb s.old s.new))
     (shrink_in own.head (held_of own) s.offset s.old s.old_align s.new s.new_align)
-    (lent-own own c.requires.0 c.requires.1) (tests-refuse _ (sym c.in-Refused.is ∙ c.change_answer.ensures))) in
+    (lent-own own c.args.a.now.sound c.requires) (tests-refuse _ (sym c.in-Err.is ∙ c.change_answer.ensures))) in
     let s = c.args in record {
       placed_by = stopped;
-      region_after = bytes-shown (λ (to : ℕ). carried s.region.now s.offset to s.new) s.region.now stopped (ap (λ (o : Placed). o.answer) c.nowhere.ensures);
+      region_after = bytes-shown (λ (to : ℕ). carried s.region.now s.offset to s.new) s.region.now stopped (ap (λ (o : Answered ℕ). o.answer) c.refused.ensures);
     }
 
 pub shrunk_block-got-requires : goal.shrunk_block-got-requires
 shrunk_block-got-requires c =
-    let own : Arena = record_of c.args.h c.args.starts.now c.args.sizes.now c.args.pointers.now in
-    let passed : (let s = c.args in refused_by (shrink_tests own (length s.region.now) s.offset s.old s.old_align s.new s.new_align) ≡ none) = let s = c.args in
+    let own : Arena = lent_of c.args.a.now.lent in
+    let passed : (let s = c.args in refused_by (shrink_tests own (length s.region.now) s.offset s.old s.old_align s.new s.new_align) ≡ None) = let s = c.args in
     passed-before (lent_tests own (length s.region.now))
     (change_tests own s.offset s.old s.old_align s.new s.new_align (ltb s.old s.new))
-    (lent-own own c.requires.0 c.requires.1)
+    (lent-own own c.args.a.now.sound c.requires)
     ∙ tests-pass _ (sym c.in_default.is ∙ c.change_answer.ensures) in
     let s = c.args in
     shrink-tested (shrink-passes own (length s.region.now) s.offset s.old s.old_align s.new s.new_align passed)
@@ -54,13 +52,13 @@ shrunk_block-got-requires c =
 pub returns-in_default-answer : goal.returns-in_default-answer
 unfolding shrink_bytes after_given shrink_of
 returns-in_default-answer c =
-    let own : Arena = record_of c.args.h c.args.starts.now c.args.sizes.now c.args.pointers.now in
-    let passed : (let s = c.args in refused_by (shrink_tests own (length s.region.now) s.offset s.old s.old_align s.new s.new_align) ≡ none) = let s = c.args in
+    let own : Arena = lent_of c.args.a.now.lent in
+    let passed : (let s = c.args in refused_by (shrink_tests own (length s.region.now) s.offset s.old s.old_align s.new s.new_align) ≡ None) = let s = c.args in
     passed-before (lent_tests own (length s.region.now))
     (change_tests own s.offset s.old s.old_align s.new s.new_align (ltb s.old s.new))
-    (lent-own own c.requires.0 c.requires.1)
+    (lent-own own c.args.a.now.sound c.requires)
     ∙ tests-pass _ (sym c.in_default.is ∙ c.change_answer.ensures) in
-    let answered : (let s = c.args in placed_of own c.shrunk_block-got.result ≡ shrink_of own (length s.region.now) s.offset s.old s.old_align s.new s.new_align) = let s = c.args in
+    let answered : (let s = c.args in answered_of own c.shrunk_block-got.result ≡ shrink_of own (length s.region.now) s.offset s.old s.old_align s.new s.new_align) = let s = c.args in
     c.shrunk_block-got.ensures
     ∙ sym
     (ap (λ o. given o own (shrink_in own.head (held_of own) s.offset s.old s.old_align s.new s.new_align)) passed) in
@@ -73,37 +71,37 @@ returns-in_default-answer c =
 pub carry-requires : goal.carry-requires
 unfolding shrink_of
 carry-requires c =
-    let own : Arena = record_of c.args.h c.args.starts.now c.args.sizes.now c.args.pointers.now in
-    let passed : (let s = c.args in refused_by (shrink_tests own (length s.region.now) s.offset s.old s.old_align s.new s.new_align) ≡ none) = let s = c.args in
+    let own : Arena = lent_of c.args.a.now.lent in
+    let passed : (let s = c.args in refused_by (shrink_tests own (length s.region.now) s.offset s.old s.old_align s.new s.new_align) ≡ None) = let s = c.args in
     passed-before (lent_tests own (length s.region.now))
     (change_tests own s.offset s.old s.old_align s.new s.new_align (ltb s.old s.new))
-    (lent-own own c.requires.0 c.requires.1)
+    (lent-own own c.args.a.now.sound c.requires)
     ∙ tests-pass _ (sym c.in_default.is ∙ c.change_answer.ensures) in
-    let answered : (let s = c.args in placed_of own c.shrunk_block-got.result ≡ shrink_of own (length s.region.now) s.offset s.old s.old_align s.new s.new_align) = let s = c.args in
+    let answered : (let s = c.args in answered_of own c.shrunk_block-got.result ≡ shrink_of own (length s.region.now) s.offset s.old s.old_align s.new s.new_align) = let s = c.args in
     c.shrunk_block-got.ensures
     ∙ sym
     (ap (λ o. given o own (shrink_in own.head (held_of own) s.offset s.old s.old_align s.new s.new_align)) passed) in
     let s = c.args in
     let (is, down) =
     shrink-served own (length s.region.now) s.offset s.old s.old_align s.new s.new_align
-    (sym (ap (λ (o : Allocation). o.answer) answered) ∙ c.in-At.is) in
+    (sym (ap (λ (o : Allocation). o.answer) answered) ∙ c.in-Ok.is) in
     (omega (arith, is.source), omega (arith, is.room))
 
 pub returns : goal.returns
 unfolding shrink_bytes after_given shrink_of
 returns c =
-    let own : Arena = record_of c.args.h c.args.starts.now c.args.sizes.now c.args.pointers.now in
-    let passed : (let s = c.args in refused_by (shrink_tests own (length s.region.now) s.offset s.old s.old_align s.new s.new_align) ≡ none) = let s = c.args in
+    let own : Arena = lent_of c.args.a.now.lent in
+    let passed : (let s = c.args in refused_by (shrink_tests own (length s.region.now) s.offset s.old s.old_align s.new s.new_align) ≡ None) = let s = c.args in
     passed-before (lent_tests own (length s.region.now))
     (change_tests own s.offset s.old s.old_align s.new s.new_align (ltb s.old s.new))
-    (lent-own own c.requires.0 c.requires.1)
+    (lent-own own c.args.a.now.sound c.requires)
     ∙ tests-pass _ (sym c.in_default.is ∙ c.change_answer.ensures) in
-    let answered : (let s = c.args in placed_of own c.shrunk_block-got.result ≡ shrink_of own (length s.region.now) s.offset s.old s.old_align s.new s.new_align) = let s = c.args in
+    let answered : (let s = c.args in answered_of own c.shrunk_block-got.result ≡ shrink_of own (length s.region.now) s.offset s.old s.old_align s.new s.new_align) = let s = c.args in
     c.shrunk_block-got.ensures
     ∙ sym
     (ap (λ o. given o own (shrink_in own.head (held_of own) s.offset s.old s.old_align s.new s.new_align)) passed) in
     let s = c.args in record {
       placed_by = answered;
       region_after = c.carry.ensures
-          ∙ bytes-shown (λ (to : ℕ). carried s.region.now s.offset to s.new) s.region.now answered c.in-At.is;
+          ∙ bytes-shown (λ (to : ℕ). carried s.region.now s.offset to s.new) s.region.now answered c.in-Ok.is;
     }

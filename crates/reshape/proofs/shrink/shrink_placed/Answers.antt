@@ -5,42 +5,38 @@ use mathlib.Core.Path.{◌≡◌, refl, sym, ◌∙◌, ap}
 use lib.ListN.{length}
 use Rattle.arena.specs.declared.Arena.{Arena}
 use Rattle.arena.specs.declared.change.Change.TheVariants.{Moved}
-use Rattle.arena.specs.Record.{record_of}
-use Rattle.calls.specs.declared.Allocation.{Allocation}
-use Rattle.calls.specs.declared.Given.TheVariants.{At}
-use Rattle.calls.specs.declared.fast.Fast.TheVariants.{Room}
 use Rattle.calls.specs.Bytes.{carried, after_given}
 use Rattle.calls.specs.Shrink.{shrink_of, shrink_bytes}
-use Rattle.calls.specs.Inner.{placed_of}
+use Rattle.calls.specs.Inner.{answered_of}
 use Rattle.calls.proofs.Answering.{bytes-shown}
 use Rattle.calls.proofs.Changing.{shrink-served}
 use Rattle.reshape.proofs.shrink.shrink_placed.Goals as goal
-
-pub shrink_fast-requires : goal.shrink_fast-requires
-shrink_fast-requires c = c.requires.0
+use Rattle.arena.specs.Refusals.{Allocation}
+use Rattle.std.specs.Prelude.{Ok, Some}
+use Rattle.arena.specs.Inner.{lent_of}
 
 pub carry-requires : goal.carry-requires
 carry-requires c =
-    let own : Arena = record_of c.args.h c.args.starts.now c.args.sizes.now c.args.pointers.now in
-    let answered : (p : ℕ) → c.shrink_fast.result ≡ Room p → let s = c.args in placed_of own (record { answer = At p; change = Moved p }) ≡ shrink_of own (length s.region.now) s.offset s.old s.old_align s.new s.new_align = λ p e. let s = c.args in
+    let own : Arena = lent_of c.args.a.now.lent in
+    let answered : (p : ℕ) → c.shrink_fast.result ≡ Some p → let s = c.args in answered_of own (record { answer = Ok p; change = Moved p }) ≡ shrink_of own (length s.region.now) s.offset s.old s.old_align s.new s.new_align = λ p e. let s = c.args in
     c.shrink_fast.ensures p e
-    ∙ sym (ap (λ (lent : ℕ). shrink_of own lent s.offset s.old s.old_align s.new s.new_align) c.requires.1) in
+    ∙ sym (ap (λ (lent : ℕ). shrink_of own lent s.offset s.old s.old_align s.new s.new_align) c.requires) in
     let s = c.args in
     let (is, down) =
     shrink-served own (length s.region.now) s.offset s.old s.old_align s.new s.new_align
-    (sym (ap (λ (o : Allocation). o.answer) (answered _ c.in-Room.is))) in
+    (sym (ap (λ (o : Allocation). o.answer) (answered _ c.in-Some.is))) in
     (omega (arith, is.source), omega (arith, is.room))
 
 pub returns : goal.returns
 unfolding shrink_bytes after_given
 returns c =
-    let own : Arena = record_of c.args.h c.args.starts.now c.args.sizes.now c.args.pointers.now in
-    let answered : (p : ℕ) → c.shrink_fast.result ≡ Room p → let s = c.args in placed_of own (record { answer = At p; change = Moved p }) ≡ shrink_of own (length s.region.now) s.offset s.old s.old_align s.new s.new_align = λ p e. let s = c.args in
+    let own : Arena = lent_of c.args.a.now.lent in
+    let answered : (p : ℕ) → c.shrink_fast.result ≡ Some p → let s = c.args in answered_of own (record { answer = Ok p; change = Moved p }) ≡ shrink_of own (length s.region.now) s.offset s.old s.old_align s.new s.new_align = λ p e. let s = c.args in
     c.shrink_fast.ensures p e
-    ∙ sym (ap (λ (lent : ℕ). shrink_of own lent s.offset s.old s.old_align s.new s.new_align) c.requires.1) in
+    ∙ sym (ap (λ (lent : ℕ). shrink_of own lent s.offset s.old s.old_align s.new s.new_align) c.requires) in
     let s = c.args in
-    let is = answered _ c.in-Room.is in
+    let is = answered _ c.in-Some.is in
     record {
-      placed_by = is;
+      placed_by = ap (answered_of own) c.moved.ensures ∙ is;
       region_after = c.carry.ensures ∙ bytes-shown (λ (to : ℕ). carried s.region.now s.offset to s.new) s.region.now is refl;
     }

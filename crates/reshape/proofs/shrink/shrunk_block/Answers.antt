@@ -1,13 +1,14 @@
 -- `reshape::shrink::shrunk_block` meets its contract: in place by what is given up, at the same offset, or afresh. Assumes nothing.
 use Prim.Native.Nat.{ℕ, ◌-◌}
 use native.Mathlib.Omega.{arith}
-use mathlib.Core.Option.{none}
+use Rattle.std.specs.Prelude.{None}
 use mathlib.Core.Path.{◌≡◌, refl, sym, ◌∙◌, ap}
 use Rattle.rounding.specs.Round.{round_down, one_bit}
 use Rattle.rounding.proofs.Powers.{power-one-bit, power-max}
 use Rattle.rounding.proofs.Rounding.{down-at-most}
 use Rattle.arena.specs.declared.Arena.{Arena}
-use Rattle.arena.specs.Record.{record_of, held_of}
+use Rattle.arena.specs.Record.{held_of}
+use Rattle.arena.specs.Inner.{lent_of}
 use Rattle.arena.proofs.Soundness.{align-open, sound-open}
 use Rattle.calls.specs.Allocate.{given}
 use Rattle.calls.specs.Shrink.{given_up, shrunk_in_place}
@@ -19,46 +20,43 @@ use Rattle.reshape.proofs.shrink.shrunk_block.Goals as goal
 pub down_to_power-d-requires : goal.down_to_power-d-requires
 down_to_power-d-requires c =
     let align = (align-open c.args.new_align c.requires.request.align_allowed).power in
-    ap one_bit c.larger.ensures ∙ power-one-bit (power-max align (sound-open _ c.requires.request.sound).head.minimum-power)
+    ap one_bit c.max.ensures ∙ power-one-bit (power-max align (sound-open _ c.args.a.now.sound).head.minimum-power)
 
 pub shrunk_in_place-requires : goal.shrunk_in_place-requires
 shrunk_in_place-requires c = (
-  c.requires.request.sound,
   c.requires.inside,
-  omega (arith, c.down_to_power-d.ensures, down-at-most (c.args.old - c.args.new) c.larger.result),
+  omega (arith, c.down_to_power-d.ensures, down-at-most (c.args.old - c.args.new) c.max.result),
 )
 
 pub returns-then-new_align-old_align : goal.returns-then-new_align-old_align
 returns-then-new_align-old_align c =
-    let own : Arena = record_of c.args.h c.args.starts.now c.args.sizes.now c.args.pointers.now in
+    let own : Arena = lent_of c.args.a.now.lent in
     let s = c.args in
     let up : c.down_to_power-d.result ≡ given_up own.head.minimum s.old s.new s.new_align =
-    c.down_to_power-d.ensures ∙ ap (round_down (s.old - s.new)) c.larger.ensures in
+    c.down_to_power-d.ensures ∙ ap (round_down (s.old - s.new)) c.max.ensures in
     c.shrunk_in_place.ensures
-    ∙ ap (λ (d : ℕ). given none own (shrunk_in_place (held_of own) s.offset s.old d)) up
-    ∙ sym (ap (given none own) (shrinks-in-place own.head (held_of own) s.offset s.old s.old_align s.new s.new_align c.if-new_align-old_align.true))
+    ∙ ap (λ (d : ℕ). given None own (shrunk_in_place (held_of own) s.offset s.old d)) up
+    ∙ sym (ap (given None own) (shrinks-in-place own.head (held_of own) s.offset s.old s.old_align s.new s.new_align c.if-new_align-old_align.true))
 
 pub is_multiple_of_power-requires : goal.is_multiple_of_power-requires
 is_multiple_of_power-requires c = power-one-bit (align-open _ c.requires.request.align_allowed).power
 
 pub returns-then-is_multiple_of_power : goal.returns-then-is_multiple_of_power
 returns-then-is_multiple_of_power c =
-    let own : Arena = record_of c.args.h c.args.starts.now c.args.sizes.now c.args.pointers.now in
+    let own : Arena = lent_of c.args.a.now.lent in
     let s = c.args in
-    placed-stays own c.requires.request.sound c.stay.ensures
+    placed-stays own c.args.a.now.sound c.stay.ensures
     (shrinks-aligned own.head (held_of own) s.offset s.old s.old_align s.new s.new_align c.if-new_align-old_align.false
     (sym c.is_multiple_of_power.ensures ∙ c.if-is_multiple_of_power.true))
 
-pub allocate_in_full-requires : goal.allocate_in_full-requires
-allocate_in_full-requires c = c.requires.request.sound
 
 pub returns : goal.returns
 returns c =
-    let own : Arena = record_of c.args.h c.args.starts.now c.args.sizes.now c.args.pointers.now in
+    let own : Arena = lent_of c.args.a.now.lent in
     let s = c.args in
     c.allocate_in_full.ensures
     ∙ allocate-works own _ s.new s.new_align refl c.requires.request
     ∙ sym
-    (ap (given none own)
+    (ap (given None own)
     (shrinks-afresh own.head (held_of own) s.offset s.old s.old_align s.new s.new_align c.if-new_align-old_align.false
     (sym c.is_multiple_of_power.ensures ∙ c.if-is_multiple_of_power.false)))

@@ -1,47 +1,22 @@
 -- `takeback::tokens::allocate_with_token` meets its contract: an unsound record or another region's length is refused, and the rest is the sound
 -- record's. Assumes nothing.
-use Prim.Native.Nat.{ℕ}
-use mathlib.Core.Bool.{true}
-use mathlib.Core.Path.{◌≡◌, sym, ◌∙◌, ap}
-use Rattle.arena.specs.Sound.{sound_of}
-use Rattle.rounding.proofs.Tests.{taken_false, left-true}
+use mathlib.Core.Path.{sym, ◌∙◌, ap}
+use lib.ListN.{length}
 use Rattle.arena.specs.Record.{held_of}
-use Rattle.calls.specs.declared.Allocation.{Allocation}
-use Rattle.calls.specs.Token.{token_for, with_token_of}
-use Rattle.calls.specs.Inner.{with_token}
-use Rattle.calls.proofs.Requests.{allocate-state, allocate-region}
+use Rattle.arena.specs.Refusals.{Allocation}
+use Rattle.std.specs.Prelude.{Err}
+use Rattle.calls.specs.declared.TokenAllocation.{TokenAllocation}
+use Rattle.calls.specs.Token.{token_given, token_for, with_token_of}
+use Rattle.calls.specs.Inner.{lent_tests, first_of, with_token}
+use Rattle.calls.proofs.Requests.{allocate-lent}
+use Rattle.calls.proofs.Cancelling.{no-token}
 use Rattle.takeback.proofs.tokens.allocate_with_token.Goals as goal
 
-pub returns-then-not-is_sound : goal.returns-then-not-is_sound
-unfolding with_token_of
-returns-then-not-is_sound c =
-    let a = c.args.a in
-    let unsound = taken_false c.is_sound.ensures c.if-not-is_sound.true in
-    c.refused_token.ensures
-    ∙ sym (ap (λ (got : Allocation). with_token got (token_for (held_of a))) (allocate-state a _ c.args.size c.args.align unsound))
-
-pub returns-then-region-head : goal.returns-then-region-head
-unfolding with_token_of
-returns-then-region-head c =
-    let a = c.args.a in
-    c.refused_token-then-region-head.ensures
-    ∙ sym
-    (ap (λ (got : Allocation). with_token got (token_for (held_of a)))
-    (allocate-region a _ c.args.size c.args.align (left-true c.is_sound.ensures c.if-not-is_sound.false) c.if-region-head.true))
-
-pub allocate_with_token_placed-placed-requires : goal.allocate_with_token_placed-placed-requires
-allocate_with_token_placed-placed-requires c =
-    let sound : sound_of c.args.a ≡ true = left-true c.is_sound.ensures c.if-not-is_sound.false in
-    sound
-
-pub make-head-requires : goal.make-head-requires
-make-head-requires c =
-    let sound : sound_of c.args.a ≡ true = left-true c.is_sound.ensures c.if-not-is_sound.false in
-    sound
-
-pub returns : goal.returns
-returns c =
-    let placed = c.allocate_with_token_placed-placed.result in
-    (λ i. record { answer = placed.answer; token = placed.token; arena = c.make-head.ensures i })
-    ∙ c.allocate_with_token_placed-placed.ensures
-    ∙ sym (ap (λ (lent : ℕ). with_token_of c.args.a lent c.args.size c.args.align) c.if-region-head.false)
+pub returns-in-Err : goal.returns-in-Err
+unfolding with_token_of token_given
+returns-in-Err c =
+    let s = c.args in
+    let n = length s.region.now in
+    let lent = sym (ap (λ a. first_of (lent_tests a n)) c.lent.ensures) ∙ c.in-Err.ensures.err in
+    ap (λ token. record { answer = Err c.in-Err.r; token = token; arena = s.a }) (no-token c.default.ensures)
+    ∙ sym (ap (λ (got : Allocation). with_token got (token_for (held_of s.a))) (allocate-lent s.a n s.size s.align lent))

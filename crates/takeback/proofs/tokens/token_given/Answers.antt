@@ -1,13 +1,12 @@
 -- `takeback::tokens::token_given` meets its contract: each case of the answer is a clause of the definition. Assumes nothing.
-use mathlib.Core.Path.{sym, ap}
-use Rattle.calls.specs.declared.Given.{Given}
 use Rattle.calls.specs.Token.{token_given}
+use Rattle.calls.proofs.Cancelling.{no-token}
 use Rattle.takeback.proofs.tokens.token_given.Goals as goal
 
-pub returns-in_default : goal.returns-in_default
+pub returns-in-Ok : goal.returns-in-Ok
 unfolding token_given
-returns-in_default c = sym (ap (λ (g : Given). token_given g c.args.token) c.in_default.is)
+returns-in-Ok c = rw c.in-Ok.is
 
-pub returns : goal.returns
+pub returns-in-Err : goal.returns-in-Err
 unfolding token_given
-returns c = sym (ap (λ (g : Given). token_given g c.args.token) c.in-At.is)
+returns-in-Err c = rw c.in-Err.is (no-token c.default.ensures)

@@ -1,0 +1,8 @@
+-- The record that the call leaves is sound, as the next one asks.
+use mathlib.Core.Path.{ap, ◌∙◌}
+use Rattle.arena.specs.Sound.{sound_of}
+use Rattle.calls.proofs.StaysSound.{shrink-sound}
+use Rattle.cost.proofs.inner.shrink.Goals as goal
+
+pub returns : goal.returns
+returns c = ap (λ o. sound_of o.arena) c.shrink_placed.ensures.placed_by ∙ shrink-sound _ c.args.a.now.sound _ _ _ _ _ _

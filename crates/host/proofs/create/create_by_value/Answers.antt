@@ -1,7 +1,0 @@
--- `host::create::create_by_value` meets its contract: creation, with its answer in numbers. Assumes nothing.
-use mathlib.Core.Path.{◌∙◌, ap}
-use Rattle.host.specs.Said.{stored_of}
-use Rattle.host.proofs.create.create_by_value.Goals as goal
-
-pub returns : goal.returns
-returns c = c.stored.ensures ∙ ap stored_of c.with_min_align_and_capacity.ensures

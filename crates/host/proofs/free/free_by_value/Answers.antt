@@ -1,7 +1,0 @@
--- `host::free::free_by_value` meets its contract: free, with its answer in numbers. Assumes nothing.
-use mathlib.Core.Path.{◌∙◌, ap}
-use Rattle.host.specs.Said.{stored_of}
-use Rattle.host.proofs.free.free_by_value.Goals as goal
-
-pub returns : goal.returns
-returns c = c.stored.ensures ∙ ap stored_of c.free.ensures
