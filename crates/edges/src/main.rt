@@ -2,25 +2,33 @@
 #![tactic(auto)]
 
 mod blocks;
-mod call;
+mod case;
 mod creating;
 mod limits;
 mod moving;
 mod planting;
 mod refusing;
 mod rewinding;
-mod steps;
+mod step;
 mod store;
 
+use crate::case::Stores;
 use std::io;
 
 fn main(rt: HostRuntime) -> io::Result<()> {
     let mut out = rt.stdout();
-    creating::run(&mut out)?;
-    refusing::run(&mut out)?;
-    blocks::run(&mut out)?;
-    limits::run(&mut out)?;
-    moving::run(&mut out)?;
-    rewinding::run(&mut out)?;
-    planting::run(&mut out)
+    let mut stores = Stores::blank();
+    for cases in [
+        creating::CASES,
+        refusing::CASES,
+        blocks::CASES,
+        limits::CASES,
+        moving::CASES,
+        rewinding::CASES,
+        planting::NEW,
+    ] {
+        stores.run(&mut out, cases)?;
+    }
+    planting::compare(&mut out, &stores.new)?;
+    stores.run(&mut out, planting::CASES)
 }

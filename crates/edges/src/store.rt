@@ -1,7 +1,6 @@
 // An arena's record with the bytes that are lent to it, and how both are compared.
 use arena::creation::emptied;
 use arena::{Arena, Head};
-use std::fmt;
 use trial::row::{Plant, are_same};
 
 pub const BYTES: usize = 16384;
@@ -9,21 +8,9 @@ pub const BYTES: usize = 16384;
 // A change that a call's comparison has to see.
 #[derive(Clone, Copy)]
 pub enum Planted {
-    // After the call.
-    Byte(usize),
-    Number(usize),
-    // After a lend, in the block's first byte, and before its owner writes there.
+    After(Plant),
+    // In the block's first byte, after a lend and before its owner writes there.
     BeforeTheWrite,
-}
-
-impl fmt::Display for Planted {
-    fn fmt<W: fmt::Write>(&self, f: &mut fmt::Formatter<W>) -> fmt::Result {
-        match self {
-            Planted::Byte(at) => write!(f, "byte {at} after"),
-            Planted::Number(_) => write!(f, "a number of the record after"),
-            Planted::BeforeTheWrite => write!(f, "the block's first byte before the write of"),
-        }
-    }
 }
 
 // The first lent bytes are the region.
@@ -58,29 +45,6 @@ impl Store {
         &mut self.bytes[..n]
     }
 
-    // The same record, lent another length.
-    pub fn with_lent(mut self, n: usize) -> Store {
-        self.lent = n;
-        self
-    }
-
-    // An unsound record: a chunk more than the table has places for.
-    pub fn overcounted(mut self) -> Store {
-        self.arena.head.count = 33;
-        self
-    }
-
-    // An unsound record: an unused place that isn't zero.
-    pub fn littered(mut self) -> Store {
-        self.arena.pointers[31] = 16;
-        self
-    }
-
-    pub fn with_planted(mut self, planted: Planted) -> Store {
-        self.planted = Some(planted);
-        self
-    }
-
     pub fn put(mut self, plant: Plant) -> Store {
         plant.put(&mut self.arena, &mut self.bytes);
         self
@@ -89,8 +53,7 @@ impl Store {
     // With what is planted after a call.
     pub fn after_call(self) -> Store {
         match self.planted {
-            Some(Planted::Byte(at)) => self.put(Plant::Byte(at)),
-            Some(Planted::Number(k)) => self.put(Plant::Number(k)),
+            Some(Planted::After(plant)) => self.put(plant),
             _ => self,
         }
     }

@@ -1,5 +1,5 @@
-// How a call is run: it prints what is asked, what was answered and what the arena is then, and gives the store after it.
-use crate::call::{Answered, Call};
+// How the steps of a case are taken and shown, a line for each call.
+use crate::step::{Answered, Step};
 use crate::store::{Planted, Store};
 use arena::{Arena, Refusal};
 use std::io;
@@ -76,8 +76,8 @@ impl Store {
     }
 
     // Of a served call that is lent bytes: whether those that it may not write are as they were.
-    fn are_others_same(&self, call: Call, after: &Store, from: usize, size: usize) -> bool {
-        if let Call::Lend(offset, size, align) = call {
+    fn are_others_same(&self, step: Step, after: &Store, from: usize, size: usize) -> bool {
+        if let Step::Lend(offset, size, align) = step {
             if !self.is_only_lent(offset, size, align) {
                 return false;
             }
@@ -88,7 +88,7 @@ impl Store {
     fn show_answered<W: Write>(
         &self,
         out: &mut W,
-        call: Call,
+        step: Step,
         answered: Answered,
         after: &Store,
     ) -> io::Result<()> {
@@ -100,65 +100,122 @@ impl Store {
             write!(out, ", bytes lent {count}")?;
         }
         if let Some((from, size)) = answered.written {
-            if self.are_others_same(call, after, from, size) {
+            if self.are_others_same(step, after, from, size) {
                 write!(out, ", other bytes unchanged")?;
             } else {
                 write!(out, ", OTHER BYTES CHANGED")?;
             }
         }
-        show_after(out, answered.answer.is_ok(), self, after)
+        match step {
+            Step::Create(..) => show_record(out, &after.arena),
+            _ => show_after(out, answered.answer.is_ok(), self, after),
+        }
     }
 
-    pub fn ask<W: Write>(&self, out: &mut W, call: Call) -> io::Result<Store> {
-        write!(out, "{call}")?;
+    // Prints what is asked, what was answered and what the arena is then, and gives the store after it.
+    fn take<W: Write>(&self, out: &mut W, step: Step) -> io::Result<Store> {
+        write!(out, "{step}")?;
         let mut after = *self;
-        if let Some(answered) = call.run(&mut after) {
-            let after = after.after_call();
-            self.show_answered(out, call, answered, &after)?;
+        if let Some(answered) = step.run(&mut after) {
+            after = after.after_call();
+            self.show_answered(out, step, answered, &after)?;
             return Ok(after);
         }
-        match call {
-            Call::Create(n, minimum, capacity) => {
-                let got = Arena::with_min_align_and_capacity(n, minimum, capacity);
-                after = Store::blank();
-                after.arena = got.arena;
-                after.lent = n;
-                show_answer(out, got.answer.map(|()| None))?;
-                show_record(out, &after.arena)?;
-            }
-            Call::Bytes(from, to) => show_bytes(out, self, from, to)?,
-            _ => show_record(out, &self.arena)?,
+        match step {
+            Step::Record => show_record(out, &self.arena)?,
+            Step::Bytes(from, to) => show_bytes(out, self, from, to)?,
+            _ => {}
         }
         Ok(after)
     }
 
-    // Each of these on this store.
-    pub fn each<W: Write>(&self, out: &mut W, calls: &[Call]) -> io::Result<()> {
-        for call in calls {
-            self.ask(out, *call)?;
+    fn each<W: Write>(&self, out: &mut W, steps: &[Step]) -> io::Result<()> {
+        for step in steps {
+            self.take(out, *step)?;
         }
         Ok(())
     }
 
-    // Each of these on the store after the one before.
-    pub fn in_turn<W: Write>(&self, out: &mut W, calls: &[Call]) -> io::Result<Store> {
+    fn in_turn<W: Write>(&self, out: &mut W, steps: &[Step]) -> io::Result<Store> {
         let mut store = *self;
-        for call in calls {
-            store = store.ask(out, *call)?;
+        for step in steps {
+            store = store.take(out, *step)?;
         }
         Ok(store)
     }
 
-    // The same of each list, from this store on.
-    pub fn each_in_turn<W: Write>(&self, out: &mut W, lists: &[&[Call]]) -> io::Result<()> {
-        for calls in lists {
-            self.in_turn(out, calls)?;
+    fn refuse<W: Write>(&self, out: &mut W, group: &[Step]) -> io::Result<()> {
+        if let Some(first) = group.first() {
+            let first = *first;
+            self.in_turn(out, &[Step::Lent(16383), Step::Overcounted, first])?;
+            self.in_turn(out, &[Step::Lent(16383), Step::Littered, first])?;
+            if first.is_lent() {
+                self.in_turn(out, &[Step::Lent(16383), first])?;
+            }
         }
-        Ok(())
+        self.each(out, group)
     }
 }
 
-// Begins with a creation.
-pub fn begin<W: Write>(out: &mut W, calls: &[Call]) -> io::Result<Store> {
-    Store::blank().in_turn(out, calls)
+// The stores that cases begin from.
+#[derive(Clone, Copy)]
+pub enum Kept {
+    New,
+    Block,
+    Other,
+}
+
+#[derive(Clone, Copy)]
+pub enum Case {
+    // The steps are taken one after the other, from a kept store on.
+    InTurn(Kept, &'static [Step]),
+    // So are these, and the store after the last is kept.
+    Keep(Kept, &'static [Step], Kept),
+    // Each is taken from the same store.
+    Each(Kept, &'static [Step]),
+    // The first call of a group is made on records that are unsound in two ways, lent a byte less than the region; then, where it is lent any, on the sound record,
+    // lent as many; then each of the group on the record with all its bytes.
+    Refused(Kept, &'static [Step]),
+}
+
+#[derive(Clone, Copy)]
+pub struct Stores {
+    pub new: Store,
+    pub block: Store,
+    pub other: Store,
+}
+
+impl Stores {
+    pub fn blank() -> Stores {
+        Stores {
+            new: Store::blank(),
+            block: Store::blank(),
+            other: Store::blank(),
+        }
+    }
+
+    fn at(&mut self, kept: Kept) -> &mut Store {
+        match kept {
+            Kept::New => &mut self.new,
+            Kept::Block => &mut self.block,
+            Kept::Other => &mut self.other,
+        }
+    }
+
+    pub fn run<W: Write>(&mut self, out: &mut W, cases: &[Case]) -> io::Result<()> {
+        for case in cases {
+            match *case {
+                Case::InTurn(from, steps) => {
+                    self.at(from).in_turn(out, steps)?;
+                }
+                Case::Keep(from, steps, to) => {
+                    let last = self.at(from).in_turn(out, steps)?;
+                    *self.at(to) = last;
+                }
+                Case::Each(from, steps) => self.at(from).each(out, steps)?,
+                Case::Refused(from, group) => self.at(from).refuse(out, group)?,
+            }
+        }
+        Ok(())
+    }
 }
