@@ -43,6 +43,7 @@ impl Head {
 }
 
 // In place, on a sound record that is lent in parts; answers its head.
+// The four parts by themselves, and no struct of them: a host lends them so, and one that holds a `&mut` would need a clause for each in every caller.
 pub fn make(
     h: Head,
     starts: &mut [usize; 32],
@@ -83,6 +84,7 @@ pub fn make(
 
 impl Arena {
     // The same of a record by value.
+    // The columns are taken out, since `make` is lent them one by one.
     pub fn changed(self, change: Change) -> Arena
         requires { sound_of self ≡ true }
         ensures { result ≡ changed_by change self }

@@ -10,6 +10,7 @@ use crate::sound::is_allowed_minimum;
 use crate::{Arena, Chunk, Head, Outcome, Refusal};
 
 // The record of this head with no chunk.
+// No From: of a head only its settings are taken.
 pub fn emptied(h: Head) -> Arena
     ensures { result ≡ holding h [] }
 {

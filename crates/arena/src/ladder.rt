@@ -17,6 +17,7 @@ pub fn held_bytes(a: &Lent) -> usize
 {
     let count = a.head.count;
     let mut held = 0;
+    // By places and not by an iterator: a chunk is put together from three columns, and the invariant speaks of the places passed.
     for i in 0..count {
         held += a.chunk_at(i).size;
     }

@@ -56,6 +56,7 @@ impl<'a> Lent<'a> {
         let sizes = &sizes[..];
         let pointers = &pointers[..];
         let mut bits = 0;
+        // By places: three columns go side by side, and the compiler does several places at a time.
         for i in head.count..Arena::PLACES {
             bits = bits | starts[i] | sizes[i] | pointers[i];
         }

@@ -15,6 +15,7 @@ ghost use Rattle.std.specs.Prelude.{◌≡◌, ◌≤◌};
 ghost use Rattle.arena.specs.Refusals.{number_of};
 
 // Everything of the record but its table. The limit is two numbers, so that no limit has one form: both zero.
+// A flag beside its number, and no Option: a host's memory holds these five numbers (the C interface).
 #[repr(C)]
 #[derive(Clone, Copy)]
 pub struct Head {
@@ -27,6 +28,7 @@ pub struct Head {
 
 // The table of held chunks, a column for each number, in the order taken; the last held one is current.
 // Plain numbers only, so that any bytes that a host lends are some record.
+// Columns, and no array of chunks: a host's memory holds them so (the C interface).
 #[repr(C)]
 #[derive(Clone, Copy)]
 pub struct Arena {

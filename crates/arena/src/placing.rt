@@ -27,6 +27,7 @@ fn past_chunks(a: &Lent, align: usize, length: usize, from: usize) -> usize
 {
     let count = a.head.count;
     let mut at = from;
+    // By places, since a chunk is put together from three columns.
     for i in 0..count {
         let c = a.chunk_at(i);
         if !is_clear_of(at, length, c) {

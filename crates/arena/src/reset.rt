@@ -8,6 +8,7 @@ use crate::change::Change;
 use crate::{Arena, Head, Outcome};
 
 // In place, on a sound record that is lent in parts; answers its head.
+// The four parts by themselves, as in `change::make`.
 pub fn keep_current(
     h: Head,
     starts: &mut [usize; 32],

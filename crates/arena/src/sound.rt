@@ -19,6 +19,7 @@ ghost use Rattle.arena.specs.Inner.{lent_of, current_of, Ready, ascending};
 use crate::lent::Lent;
 use crate::{Arena, Chunk, Head};
 
+// These two are document 01's two lists, each with its own largest.
 pub fn is_allowed_align(align: usize) -> bool
     ensures { result ≡ allowed_align align }
 {
@@ -97,6 +98,7 @@ fn are_ascending(a: &Lent) -> bool
     let h = a.head;
     let mut top = h.region;
     let mut left = h.count;
+    // Counted down, so that what is left is the list of the first places, as the definition goes by.
     while 0 < left {
         left -= 1;
         let c = a.chunk_at(left);
@@ -114,6 +116,7 @@ fn are_chunks_sound(a: &Lent) -> bool
     ensures { result ≡ every (chunk_sound a.now.head.region a.now.head.minimum) (held_of (lent_of a.now)) }
 {
     let h = a.head;
+    // By places, since a chunk is put together from three columns.
     for i in 0..h.count {
         let c = a.chunk_at(i);
         if !is_chunk_sound(h.region, h.minimum, c) {
@@ -154,6 +157,7 @@ fn are_apart(a: &Lent) -> bool
     ensures { result ≡ apart (held_of (lent_of a.now)) }
 {
     let count = a.head.count;
+    // By places: each is held against those before it.
     for i in 0..count {
         if !is_clear_of_earlier(a, i) {
             return false;

@@ -90,6 +90,7 @@ pub fn allocate_placed(a: &Sound, size: usize, align: usize) -> Answered<usize>
     Answered::moved(p)
 }
 
+// Each by-value call has this frame of three lines; a generic one over closures would say each call's contract once more.
 pub fn allocate(a: Arena, region: &[u8], size: usize, align: usize) -> Outcome<usize>
     ensures { result ≡ allocate_of a (length region.now) size align }
 {

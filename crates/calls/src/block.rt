@@ -39,6 +39,7 @@ pub fn is_acceptable(a: &Lent, offset: usize, size: usize, align: usize) -> bool
         return false;
     }
     let mut left = a.head.count;
+    // Counted down, so that what is left is the list of the first places, as the definition goes by.
     while 0 < left {
         left -= 1;
         let c = a.chunk_at(left);

@@ -35,6 +35,7 @@ pub fn free_ended(a: &Sound, offset: usize, size: usize, align: usize) -> Answer
     }
 }
 
+// The same frame as allocate's, without a lent region.
 pub fn free(a: Arena, offset: usize, size: usize, align: usize) -> Outcome<()>
     ensures { result ≡ free_of a offset size align }
 {

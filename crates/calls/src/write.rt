@@ -7,6 +7,7 @@ use crate::allocate::allocate;
 use crate::bytes::{copy_from, fill};
 use arena::{Arena, Outcome};
 
+// Two calls of document 01, which differ in what they write.
 pub fn copy_in(a: Arena, region: &mut [u8], source: &[u8], align: usize) -> Outcome<usize>
     ensures value { result ≡ allocate_of a (length region.old) (length source.now) align }
     ensures region_after { region.new ≡ copy_in_bytes a region.old source.now align }

@@ -1,6 +1,7 @@
 // Additional entries for C and Rust: the record is lent in parts and changed in its place, so that it is not copied. Of each call there are two.
 // `miravoly_fast_*` tests the record as the entries of `host` do, and answers the same. `miravoly_sound_*` requires that the record is sound and that the
 // region is its own, for a host that keeps both to itself: then nothing but the call's own numbers is tested.
+// The pairs, the four parts and the plain numbers are the C interface; tools/contracts holds each to its named call.
 #![tactic(auto)]
 
 pub mod allocate;

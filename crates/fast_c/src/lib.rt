@@ -1,4 +1,5 @@
 // The archive libfast.a: each export is `fast`'s function of its name, with its clauses. Nothing is decided here.
+// The pairs, the four parts and the plain numbers are the C interface.
 #![tactic(auto)]
 
 pub mod allocate;

@@ -1,4 +1,5 @@
 // The calls for C and Rust: the arena's record is lent and changed in place, and what a call answers is plain numbers.
+// The numbers for refusals, the zeros where there is nothing and an entry for each call are the C interface.
 #![tactic(auto)]
 
 pub mod allocate;

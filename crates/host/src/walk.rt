@@ -95,6 +95,7 @@ pub fn part<'r>(w: Walk<'r>) -> &'r [u8]
     part_at(w.region, w.arena, w.index)
 }
 
+// No iterator: a step says its refusal and what is left, which the C entry and the bindings hand on.
 pub fn moved<'r>(w: Walk<'r>) -> Walk<'r>
     ensures { (result.region ≡ w.entry.region) × (result.arena ≡ w.entry.arena) × (result.index ≡ next_index w.entry.index) }
 {

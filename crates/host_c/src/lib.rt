@@ -1,4 +1,5 @@
 // The archive libhost.a: each export is `host`'s function of its name, with its clauses. Nothing is decided here.
+// An entry for each call, and its plain numbers, are the C interface.
 #![tactic(auto)]
 
 pub mod allocate;

@@ -64,6 +64,7 @@ pub fn grown_block(
 }
 
 // Every test and every way to serve, in the record's own region.
+// Document 01 defines grow, shrink and resize each by itself: one function for all would take their definitions as arguments.
 fn grow_in_full(
     a: &Sound,
     region: &mut [u8],

@@ -34,6 +34,7 @@ fn resized_block(
 }
 
 // In the record's own region. A size of 0 names no block: its offset is not tested.
+// As grow's, by resize's own definition.
 pub fn resize_placed(
     a: &Sound,
     region: &mut [u8],

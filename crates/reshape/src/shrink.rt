@@ -75,6 +75,7 @@ pub fn shrunk_block(
 }
 
 // Every test and every way to serve, in the record's own region.
+// As grow's, by shrink's own definition.
 fn shrink_in_full(
     a: &Sound,
     region: &mut [u8],

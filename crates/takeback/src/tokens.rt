@@ -13,6 +13,7 @@ use calls::allocate::allocate_placed;
 use calls::refusals::lent_sound;
 use calls::{Answered, Token, TokenAllocation, TokenPlaced};
 
+// No From: it is one of two tokens that a record says, the one before an allocation.
 fn token_for(a: &Sound) -> Token
     ensures { result ≡ token_for (held_of (lent_of a.now.lent)) }
 {
