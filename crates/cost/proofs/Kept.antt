@@ -1,4 +1,4 @@
--- A change that is no call's leaves a sound record sound too.
+-- What changes leave: a sound record is sound after none and after a reset, and each is of the region that it was of. Assumes nothing.
 use Prim.Native.Nat.{ℕ}
 use mathlib.Core.Bool.{Bool, true, false, cond}
 use mathlib.Core.List.{◌∷◌}

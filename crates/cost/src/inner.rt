@@ -23,7 +23,7 @@ use reshape::grow::grow_placed;
 use reshape::shrink::shrink_placed;
 use takeback::tokens::{allocate_with_token_placed, cancel_ended, is_bad_token};
 
-// The calls of a turn, or the tests of its second one.
+// The calls of a turn: the first alone, or a second one after it, whole or as far as its tests.
 #[derive(Clone, Copy)]
 pub enum Calls {
     Allocate,
@@ -126,7 +126,7 @@ fn reset<T: Copy>(_a: &Sound, _region: &mut [u8], _given: T, _n: &Numbers) -> An
     }
 }
 
-// No second call, or one that goes as far as its tests.
+// A second call that goes no further than its tests; the record stays as it is.
 fn tested(_a: &Sound, passes: bool) -> Answered<()>
     ensures { Keeps (lent_of _a.now.lent) result.change }
 {
@@ -151,7 +151,7 @@ fn free_tests(a: &Sound, _region: &mut [u8], at: usize, n: &Numbers) -> Answered
     )
 }
 
-// Of the numbers that a second call asks for, those of the same alignment.
+// Of a call in place, where the alignment stays.
 fn grow_tests(a: &Sound, _region: &mut [u8], at: usize, n: &Numbers) -> Answered<()>
     ensures { Keeps (lent_of a.now.lent) result.change }
 {
@@ -180,6 +180,7 @@ fn cancel_tests(a: &Sound, _region: &mut [u8], given: (usize, Token), n: &Number
     tested(a, !is_bad_token(a, given.0 ^ n.nothing, named(given.1, n)))
 }
 
+// A function of its own: one with a loop cannot build a value that says of itself that it is sound.
 fn known<'a>(lent: Lent<'a>) -> Sound<'a>
     requires { sound_of (lent_of lent) ≡ true }
     ensures { result.lent ≡ lent.entry }
