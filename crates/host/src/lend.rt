@@ -34,9 +34,6 @@ pub extern "C" fn miravoly_lend(
 ) -> SaidPart
     ensures { result ≡ said_part (lend_of arena.now (length region.now) offset size align) offset size }
 {
-    part_of(
-        lend_answer(*arena, region, offset, size, align),
-        offset,
-        size,
-    )
+    let answer = lend_answer(*arena, region, offset, size, align);
+    part_of(answer, offset, size)
 }
