@@ -54,7 +54,11 @@ fn refused_creation(r: Refusal) -> Outcome<()>
 
 impl Arena {
     // The region is told by its length: creation reads none of its bytes and writes none.
-    pub fn with_min_align_and_capacity(region: usize, minimum: usize, capacity: usize) -> Outcome<()>
+    pub fn with_min_align_and_capacity(
+        region: usize,
+        minimum: usize,
+        capacity: usize,
+    ) -> Outcome<()>
         ensures { result ≡ created_of region minimum capacity }
     {
         if Arena::MOST < region {

@@ -7,13 +7,7 @@ use crate::refusals::{block_answer, lent_sound};
 use arena::{Arena, Refusal};
 
 // By the region's length, which is all that the tests read of it.
-fn answer_of(
-    a: Arena,
-    lent: usize,
-    offset: usize,
-    size: usize,
-    align: usize,
-) -> Result<(), Refusal>
+fn answer_of(a: Arena, lent: usize, offset: usize, size: usize, align: usize) -> Result<(), Refusal>
     ensures { result ≡ lend_of a lent offset size align }
 {
     let sound = lent_sound(a.lent(), lent)?;

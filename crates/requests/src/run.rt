@@ -74,9 +74,7 @@ pub fn run(a: &Sound, region: &mut [u8], request: Request) -> Ran
     ensures { ran_said (lent_of a.now.lent) result region.new ≡ run_in (request_said request) (lent_of a.now.lent) region.old }
 {
     match request {
-        Request::Allocate { size, align } => {
-            Ran::from(allocate_placed(a, size, align))
-        }
+        Request::Allocate { size, align } => { Ran::from(allocate_placed(a, size, align)) }
         Request::Free {
             offset,
             size,
@@ -88,18 +86,14 @@ pub fn run(a: &Sound, region: &mut [u8], request: Request) -> Ran
             old_align,
             new_size,
             new_align,
-        } => Ran::from(grow_placed(
-            a, region, offset, old_size, old_align, new_size, new_align,
-        )),
+        } => Ran::from(grow_placed(a, region, offset, old_size, old_align, new_size, new_align)),
         Request::Shrink {
             offset,
             old_size,
             old_align,
             new_size,
             new_align,
-        } => Ran::from(shrink_placed(
-            a, region, offset, old_size, old_align, new_size, new_align,
-        )),
+        } => Ran::from(shrink_placed(a, region, offset, old_size, old_align, new_size, new_align)),
         Request::Reset => always(Change::Kept),
         Request::SetLimit { limit } => always(Change::Limited(Some(limit))),
         Request::NoLimit => always(Change::Limited(None)),
@@ -116,8 +110,6 @@ pub fn run(a: &Sound, region: &mut [u8], request: Request) -> Ran
             old_size,
             align,
             new_size,
-        } => Ran::from(resize_placed(
-            a, region, offset, old_size, align, new_size,
-        )),
+        } => Ran::from(resize_placed(a, region, offset, old_size, align, new_size)),
     }
 }

@@ -55,9 +55,7 @@ pub fn grown_block(
     requires { GrowTested (lent_of a.now.lent) old old_align new new_align }
     ensures { AnsweredBy (λ r. given None r (grow_in r.head (held_of r) offset old old_align new new_align)) (lent_of a.now.lent) result }
 {
-    let Some(p) = in_place(
-        a, offset, old, old_align, new, new_align,
-    ) else {
+    let Some(p) = in_place(a, offset, old, old_align, new, new_align) else {
         return allocate_in_full(a, new, new_align);
     };
     Answered::moved(p)
@@ -78,20 +76,10 @@ fn grow_in_full(
     ensures placed_by { AnsweredBy (λ r. grow_of r (length region.old) offset old old_align new new_align) (lent_of a.now.lent) result }
     ensures region_after { region.new ≡ grow_bytes (lent_of a.now.lent) region.old offset old old_align new new_align }
 {
-    if let Err(r) = change_answer(
-        a,
-        offset,
-        old,
-        old_align,
-        new,
-        new_align,
-        new < old,
-    ) {
+    if let Err(r) = change_answer(a, offset, old, old_align, new, new_align, new < old) {
         return Answered::refused(r);
     }
-    let got = grown_block(
-        a, offset, old, old_align, new, new_align,
-    );
+    let got = grown_block(a, offset, old, old_align, new, new_align);
     let Ok(to) = got.answer else {
         return got;
     };
@@ -122,9 +110,7 @@ fn grow_fast(
     if !is_last_block(a, offset, old, old_align) {
         return None;
     }
-    in_place(
-        a, offset, old, old_align, new, new_align,
-    )
+    in_place(a, offset, old, old_align, new, new_align)
 }
 
 // The same as in full, but short, as allocate's is.
@@ -141,13 +127,9 @@ pub fn grow_placed(
     ensures placed_by { AnsweredBy (λ r. grow_of r (length region.old) offset old old_align new new_align) (lent_of a.now.lent) result }
     ensures region_after { region.new ≡ grow_bytes (lent_of a.now.lent) region.old offset old old_align new new_align }
 {
-    let Some(p) = grow_fast(
-        a, offset, old, old_align, new, new_align,
-    ) else {
+    let Some(p) = grow_fast(a, offset, old, old_align, new, new_align) else {
         let copy = *a;
-        return grow_in_full(
-            &copy, region, offset, old, old_align, new, new_align,
-        );
+        return grow_in_full(&copy, region, offset, old, old_align, new, new_align);
     };
     carry(region, offset, p, old);
     Answered::moved(p)
@@ -169,9 +151,7 @@ pub fn grow(
         Ok(sound) => sound,
         Err(r) => return Outcome::refused(a, r),
     };
-    let got = grow_placed(
-        &sound, region, offset, old, old_align, new, new_align,
-    );
+    let got = grow_placed(&sound, region, offset, old, old_align, new, new_align);
     Outcome {
         answer: got.answer,
         arena: a.changed(got.change),

@@ -16,13 +16,7 @@ use calls::bytes::carry;
 use calls::refusals::{change_answer, lent_sound};
 
 // Where the block of a size above 0 stands; no byte is carried yet.
-fn resized_block(
-    a: &Sound,
-    offset: usize,
-    old: usize,
-    align: usize,
-    new: usize,
-) -> Answered<usize>
+fn resized_block(a: &Sound, offset: usize, old: usize, align: usize, new: usize) -> Answered<usize>
     requires tested { Tested (lent_of a.now.lent) new align }
     requires nonzero { (0 < old) × (offset + old ≤ a.now.lent.head.region) }
     ensures { AnsweredBy (λ r. given None r (resize_in r.head (held_of r) offset old align new)) (lent_of a.now.lent) result }
@@ -50,9 +44,7 @@ pub fn resize_placed(
     if old == 0 {
         return allocate_in_full(a, new, align);
     }
-    if let Err(r) = change_answer(
-        a, offset, old, align, new, align, false,
-    ) {
+    if let Err(r) = change_answer(a, offset, old, align, new, align, false) {
         return Answered::refused(r);
     }
     let got = resized_block(a, offset, old, align, new);

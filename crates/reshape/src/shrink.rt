@@ -33,12 +33,7 @@ fn stay(offset: usize) -> Answered<usize>
 //     after                               [ kept . . . ]  .
 //
 // For that d has to be half of the old bytes, rounded up: from 5 bytes to 3, d is 2, and the 3 kept bytes would overlap.
-fn shrunk_in_place(
-    a: &Sound,
-    offset: usize,
-    old: usize,
-    d: usize,
-) -> Answered<usize>
+fn shrunk_in_place(a: &Sound, offset: usize, old: usize, d: usize) -> Answered<usize>
     requires { (offset + old ≤ a.now.lent.head.region) × (d ≤ old) }
     ensures { AnsweredBy (λ r. given None r (shrunk_in_place (held_of r) offset old d)) (lent_of a.now.lent) result }
 {
@@ -89,20 +84,10 @@ fn shrink_in_full(
     ensures placed_by { AnsweredBy (λ r. shrink_of r (length region.old) offset old old_align new new_align) (lent_of a.now.lent) result }
     ensures region_after { region.new ≡ shrink_bytes (lent_of a.now.lent) region.old offset old old_align new new_align }
 {
-    if let Err(r) = change_answer(
-        a,
-        offset,
-        old,
-        old_align,
-        new,
-        new_align,
-        old < new,
-    ) {
+    if let Err(r) = change_answer(a, offset, old, old_align, new, new_align, old < new) {
         return Answered::refused(r);
     }
-    let got = shrunk_block(
-        a, offset, old, old_align, new, new_align,
-    );
+    let got = shrunk_block(a, offset, old, old_align, new, new_align);
     let Ok(to) = got.answer else {
         return got;
     };
@@ -151,13 +136,9 @@ pub fn shrink_placed(
     ensures placed_by { AnsweredBy (λ r. shrink_of r (length region.old) offset old old_align new new_align) (lent_of a.now.lent) result }
     ensures region_after { region.new ≡ shrink_bytes (lent_of a.now.lent) region.old offset old old_align new new_align }
 {
-    let Some(p) = shrink_fast(
-        a, offset, old, old_align, new, new_align,
-    ) else {
+    let Some(p) = shrink_fast(a, offset, old, old_align, new, new_align) else {
         let copy = *a;
-        return shrink_in_full(
-            &copy, region, offset, old, old_align, new, new_align,
-        );
+        return shrink_in_full(&copy, region, offset, old, old_align, new, new_align);
     };
     carry(region, offset, p, new);
     Answered::moved(p)
@@ -179,9 +160,7 @@ pub fn shrink(
         Ok(sound) => sound,
         Err(r) => return Outcome::refused(a, r),
     };
-    let got = shrink_placed(
-        &sound, region, offset, old, old_align, new, new_align,
-    );
+    let got = shrink_placed(&sound, region, offset, old, old_align, new, new_align);
     Outcome {
         answer: got.answer,
         arena: a.changed(got.change),

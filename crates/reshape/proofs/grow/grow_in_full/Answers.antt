@@ -22,7 +22,6 @@ use Rattle.calls.proofs.Placing.{placed-refused}
 use Rattle.calls.proofs.Testing.{passed-before, tests-refuse, tests-pass}
 use Rattle.reshape.proofs.grow.grow_in_full.Goals as goal
 
-
 pub returns-in-Err : goal.returns-in-Err
 unfolding grow_bytes given after_given grow_of
 returns-in-Err c =

@@ -10,7 +10,6 @@ use Rattle.calls.proofs.Placing.{placed-moved}
 use Rattle.calls.proofs.Requests.{allocate-works}
 use Rattle.reshape.proofs.grow.grown_block.Goals as goal
 
-
 pub returns-in_default : goal.returns-in_default
 returns-in_default c =
     let a = lent_of c.args.a.now.lent in

@@ -20,8 +20,7 @@ pub returns-then-old_align-new_align : goal.returns-then-old_align-new_align
 returns-then-old_align-new_align c =
     let held : List Chunk = held_of (lent_of c.args.a.now.lent) in
     let s = c.args in
-    sym ( (not-to-higher s.a.now.lent.head.minimum held s.offset s.old s.old_align s.new s.new_align c.if-old_align-new_align.true))
-
+    sym ((not-to-higher s.a.now.lent.head.minimum held s.offset s.old s.old_align s.new s.new_align c.if-old_align-new_align.true))
 
 pub returns-then-not-is_at_pointer : goal.returns-then-not-is_at_pointer
 returns-then-not-is_at_pointer c =

@@ -35,7 +35,6 @@ returns-then-old-eq0 c =
       region_after = sym (nothing-carried own s.offset s.old s.align s.new s.region.now (resize_of own lent s.offset s.old s.align s.new).answer zero);
     }
 
-
 pub returns-in-Err : goal.returns-in-Err
 unfolding resize_bytes given after_given resize_of
 returns-in-Err c =

@@ -22,7 +22,6 @@ use Rattle.calls.proofs.Placing.{placed-refused}
 use Rattle.calls.proofs.Testing.{passed-before, tests-refuse, tests-pass}
 use Rattle.reshape.proofs.shrink.shrink_in_full.Goals as goal
 
-
 pub returns-in-Err : goal.returns-in-Err
 unfolding shrink_bytes given after_given shrink_of
 returns-in-Err c =

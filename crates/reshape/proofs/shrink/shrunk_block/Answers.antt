@@ -49,7 +49,6 @@ returns-then-is_multiple_of_power c =
     (shrinks-aligned own.head (held_of own) s.offset s.old s.old_align s.new s.new_align c.if-new_align-old_align.false
     (sym c.is_multiple_of_power.ensures ∙ c.if-is_multiple_of_power.true))
 
-
 pub returns : goal.returns
 returns c =
     let own : Arena = lent_of c.args.a.now.lent in

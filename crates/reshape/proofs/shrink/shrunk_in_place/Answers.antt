@@ -10,7 +10,6 @@ use Rattle.calls.proofs.Placing.{placed-stays, placed-moved}
 use Rattle.calls.proofs.Shrinking.{stays-elsewhere, stays-near, goes-up}
 use Rattle.reshape.proofs.shrink.shrunk_in_place.Goals as goal
 
-
 pub returns-then-not-is_at_pointer : goal.returns-then-not-is_at_pointer
 returns-then-not-is_at_pointer c =
     let a = lent_of c.args.a.now.lent in
