@@ -3,6 +3,7 @@
 
 pub mod allocate;
 pub mod answers;
+mod change;
 pub mod create;
 pub mod free;
 pub mod grow;
