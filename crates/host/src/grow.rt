@@ -51,10 +51,10 @@ pub extern "C" fn miravoly_grow_zeroed(
         Ok(sound) => sound,
         Err(r) => return r.into(),
     };
-    let got = grow_placed(&sound, region, offset, old, old_align, new, new_align);
-    change_in(arena, got.change);
-    let said = Said::from(got.answer);
-    if let Ok(to) = got.answer {
+    let grown = grow_placed(&sound, region, offset, old, old_align, new, new_align);
+    change_in(arena, grown.change);
+    let said = Said::from(grown.answer);
+    if let Ok(to) = grown.answer {
         fill(region, to + old, new - old, 0);
     }
     said

@@ -39,8 +39,8 @@ unfolding grow_bytes grow_zeroed_bytes after_given
 returns-in_default-clause-region_after c =
     let s = c.args in
     let own = ap lent_of c.in-Ok.ensures.ok.0 ∙ c.lent.ensures in
-    let e = answered-in-place own (λ (a : Arena). grow_of a (length s.region.now) s.offset s.old s.old_align s.new s.new_align) _ c.grow_placed-got.ensures.placed_by in
-    let grown = c.grow_placed-got.ensures.region_after ∙ ap (λ (a : Arena). grow_bytes a s.region.now s.offset s.old s.old_align s.new s.new_align) own in
+    let e = answered-in-place own (λ (a : Arena). grow_of a (length s.region.now) s.offset s.old s.old_align s.new s.new_align) _ c.grow_placed-grown.ensures.placed_by in
+    let grown = c.grow_placed-grown.ensures.region_after ∙ ap (λ (a : Arena). grow_bytes a s.region.now s.offset s.old s.old_align s.new s.new_align) own in
     grown
     ∙ sym (bytes-shown (moved s.region.now s.offset s.old) s.region.now e c.in_default.is)
     ∙ bytes-shown (cleared s.region.now s.offset s.old s.new) s.region.now e c.in_default.is
@@ -49,7 +49,7 @@ pub overflow_add-to : goal.overflow_add-to
 overflow_add-to c =
     let s = c.args in
     let own = ap lent_of c.in-Ok.ensures.ok.0 ∙ c.lent.ensures in
-    let e = answered-in-place own (λ (a : Arena). grow_of a (length s.region.now) s.offset s.old s.old_align s.new s.new_align) _ c.grow_placed-got.ensures.placed_by in
+    let e = answered-in-place own (λ (a : Arena). grow_of a (length s.region.now) s.offset s.old s.old_align s.new s.new_align) _ c.grow_placed-grown.ensures.placed_by in
     let served = grow-served _ _ _ _ _ _ _ (sym (ap (λ (o : Allocation). o.answer) e) ∙ c.in-Ok-answer.is) in
     omega (arith, served.0.room, served.1)
 
@@ -57,7 +57,7 @@ pub overflow_sub-new : goal.overflow_sub-new
 overflow_sub-new c =
     let s = c.args in
     let own = ap lent_of c.in-Ok.ensures.ok.0 ∙ c.lent.ensures in
-    let e = answered-in-place own (λ (a : Arena). grow_of a (length s.region.now) s.offset s.old s.old_align s.new s.new_align) _ c.grow_placed-got.ensures.placed_by in
+    let e = answered-in-place own (λ (a : Arena). grow_of a (length s.region.now) s.offset s.old s.old_align s.new s.new_align) _ c.grow_placed-grown.ensures.placed_by in
     let served = grow-served _ _ _ _ _ _ _ (sym (ap (λ (o : Allocation). o.answer) e) ∙ c.in-Ok-answer.is) in
     served.1
 
@@ -65,17 +65,17 @@ pub fill-requires : goal.fill-requires
 fill-requires c =
     let s = c.args in
     let own = ap lent_of c.in-Ok.ensures.ok.0 ∙ c.lent.ensures in
-    let e = answered-in-place own (λ (a : Arena). grow_of a (length s.region.now) s.offset s.old s.old_align s.new s.new_align) _ c.grow_placed-got.ensures.placed_by in
+    let e = answered-in-place own (λ (a : Arena). grow_of a (length s.region.now) s.offset s.old s.old_align s.new s.new_align) _ c.grow_placed-grown.ensures.placed_by in
     let served = grow-served _ _ _ _ _ _ _ (sym (ap (λ (o : Allocation). o.answer) e) ∙ c.in-Ok-answer.is) in
-    omega (arith, served.0.room, served.1, c.grow_placed-got.auto.region)
+    omega (arith, served.0.room, served.1, c.grow_placed-grown.auto.region)
 
 pub returns-in-Ok-answer-clause-region_after : goal.returns-in-Ok-answer-clause-region_after
 unfolding grow_bytes grow_zeroed_bytes after_given
 returns-in-Ok-answer-clause-region_after c =
     let s = c.args in
     let own = ap lent_of c.in-Ok.ensures.ok.0 ∙ c.lent.ensures in
-    let e = answered-in-place own (λ (a : Arena). grow_of a (length s.region.now) s.offset s.old s.old_align s.new s.new_align) _ c.grow_placed-got.ensures.placed_by in
-    let grown = c.grow_placed-got.ensures.region_after ∙ ap (λ (a : Arena). grow_bytes a s.region.now s.offset s.old s.old_align s.new s.new_align) own in
+    let e = answered-in-place own (λ (a : Arena). grow_of a (length s.region.now) s.offset s.old s.old_align s.new s.new_align) _ c.grow_placed-grown.ensures.placed_by in
+    let grown = c.grow_placed-grown.ensures.region_after ∙ ap (λ (a : Arena). grow_bytes a s.region.now s.offset s.old s.old_align s.new s.new_align) own in
     c.fill.ensures
     ∙ ap (λ (bytes : List ℕ). written bytes (c.in-Ok-answer.to + s.old) (replicate (s.new - s.old) 0))
     (grown ∙ sym (bytes-shown (moved s.region.now s.offset s.old) s.region.now e c.in-Ok-answer.is))

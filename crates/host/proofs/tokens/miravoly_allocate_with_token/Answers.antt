@@ -28,8 +28,8 @@ returns c =
     let whole = c.in-Ok.ensures.ok.1 ∙ ap (λ (a : Arena). a.head.region) c.lent.ensures in
     let got = c.allocate_with_token_placed-got.result in
     let e =
-        ap (λ (a : Arena). token_placed_of a got) (sym own) ∙ c.allocate_with_token_placed-got.ensures
-        ∙ ap (λ (a : Arena). with_token_of a a.head.region s.size s.align) own in
+    ap (λ (a : Arena). token_placed_of a got) (sym own) ∙ c.allocate_with_token_placed-got.ensures
+    ∙ ap (λ (a : Arena). with_token_of a a.head.region s.size s.align) own in
     record {
       value = rw whole (c.said_token-2.ensures ∙ ap said_token e);
       arena_after = rw whole (c.change_in.ensures ∙ ap (λ (o : TokenAllocation). o.arena) e);
