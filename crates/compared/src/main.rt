@@ -7,33 +7,28 @@ mod digest;
 mod tape;
 
 use crate::digest::{DIGEST, digest_of, set_weights};
-use crate::tape::{Code, RECORD, number, write_pattern};
+use crate::tape::{Code, RECORD, Record, write_pattern};
 use arena::{Arena, Outcome, Refusal};
 use calls::{Token, TokenAllocation};
 use std::io;
 use std::io::{Read, Write};
 use trial::table::{Retrying, read_full};
 
+// What a digest says of an answer without an offset: these two are compare/'s.
 const DONE: usize = 4294967295;
 
 const REFUSED: usize = 2147483648;
-
-// The token where none was given.
-const NONE: Token = Token {
-    count: 0,
-    pointer: 0,
-};
 
 const BUFFER: usize = 65536;
 
 // The digests of a piece of 43,680 bytes, 1,820 records, fit in the output.
 const PIECE: usize = 43680;
 
-// What a request was answered.
+// What a request was answered, and the token that it was given.
 #[derive(Clone, Copy)]
 struct Said {
     number: usize,
-    token: Token,
+    token: Option<Token>,
 }
 
 // The arena after a record, and what its request was answered. A record that is no request is answered nothing.
@@ -47,7 +42,7 @@ fn refused(r: Refusal) -> usize {
     REFUSED + r.number()
 }
 
-fn answered(arena: Arena, answer: Result<usize, Refusal>, token: Token) -> Turn {
+fn answered(arena: Arena, answer: Result<usize, Refusal>, token: Option<Token>) -> Turn {
     let number = answer.unwrap_or_else(refused);
     Turn {
         arena,
@@ -55,92 +50,75 @@ fn answered(arena: Arena, answer: Result<usize, Refusal>, token: Token) -> Turn 
     }
 }
 
-fn done(got: Outcome<()>) -> Turn {
-    answered(got.arena, got.answer.map(|()| DONE), NONE)
+impl From<Outcome<()>> for Turn {
+    fn from(got: Outcome<()>) -> Turn {
+        answered(got.arena, got.answer.map(|()| DONE), None)
+    }
 }
 
-fn given(got: Outcome<usize>) -> Turn {
-    answered(got.arena, got.answer, NONE)
+impl From<Outcome<usize>> for Turn {
+    fn from(got: Outcome<usize>) -> Turn {
+        answered(got.arena, got.answer, None)
+    }
 }
 
-fn given_with_token(got: TokenAllocation) -> Turn {
-    answered(got.arena, got.answer, got.token)
-}
-
-fn copy_in(
-    a: Arena,
-    region: &mut [u8],
-    source: &mut [u8],
-    size: usize,
-    align: usize,
-    p: u8,
-) -> Turn {
-    let n = size.min(source.len());
-    let part = &mut source[..n];
-    write_pattern(part, p);
-    given(calls::write::copy_in(a, region, part, align))
-}
-
-// The owner of a block writes its pattern there: no request, so no digest.
-fn owner_writes(
-    a: Arena,
-    region: &mut [u8],
-    offset: usize,
-    size: usize,
-    align: usize,
-    p: u8,
-) -> Turn {
-    write_pattern(calls::lend::lend(a, region, offset, size, align), p);
-    Turn {
-        arena: a,
-        said: None,
+impl From<TokenAllocation> for Turn {
+    fn from(got: TokenAllocation) -> Turn {
+        answered(got.arena, got.answer, Some(got.token))
     }
 }
 
 // A code that is none of these asks for nothing, and is answered 0.
-fn ask(
-    a: Arena,
-    region: &mut [u8],
-    source: &mut [u8],
-    record: &[u8],
-    code: Option<Code>,
-    p: u8,
-) -> Turn {
-    let n1 = number(record, 4);
-    let n2 = number(record, 8);
-    let n3 = number(record, 12);
-    let n4 = number(record, 16);
-    let n5 = number(record, 20);
-    match code {
-        Some(Code::Allocate) => given(calls::allocate::allocate(a, region, n1, n2)),
-        Some(Code::Free) => done(calls::free::free(a, n1, n2, n3)),
-        Some(Code::Grow) => given(reshape::grow::grow(a, region, n1, n2, n3, n4, n5)),
-        Some(Code::Shrink) => given(reshape::shrink::shrink(a, region, n1, n2, n3, n4, n5)),
-        Some(Code::Reset) => done(a.reset()),
-        Some(Code::SetLimit) => done(a.set_allocation_limit(n1 * 4294967296 + n2)),
-        Some(Code::NoLimit) => done(a.no_allocation_limit()),
-        Some(Code::AllocateWithToken) => given_with_token(takeback::tokens::allocate_with_token(
+fn ask(a: Arena, region: &mut [u8], source: &mut [u8], record: Record) -> Turn {
+    let p = record.pattern;
+    let [high, low, ..] = record.numbers;
+    let [n1, n2, n3, n4, n5] = record.numbers.map(|n| n as usize);
+    match record.code {
+        Some(Code::Create) => Turn::from(Arena::with_min_align_and_capacity(region.len(), n1, n3)),
+        Some(Code::Allocate) => Turn::from(calls::allocate::allocate(a, region, n1, n2)),
+        Some(Code::Free) => Turn::from(calls::free::free(a, n1, n2, n3)),
+        Some(Code::Grow) => Turn::from(reshape::grow::grow(a, region, n1, n2, n3, n4, n5)),
+        Some(Code::Shrink) => Turn::from(reshape::shrink::shrink(a, region, n1, n2, n3, n4, n5)),
+        Some(Code::Reset) => Turn::from(a.reset()),
+        Some(Code::SetLimit) => {
+            let limit = high as usize * 4294967296 + low as usize;
+            Turn::from(a.set_allocation_limit(limit))
+        }
+        Some(Code::NoLimit) => Turn::from(a.no_allocation_limit()),
+        Some(Code::AllocateWithToken) => Turn::from(takeback::tokens::allocate_with_token(
             a, region, n1, n2,
         )),
-        Some(Code::Cancel) => done(takeback::tokens::cancel(
-            a,
-            n1,
-            Token {
+        Some(Code::Cancel) => {
+            let token = Token {
                 count: n2,
                 pointer: n3,
-            },
+            };
+            Turn::from(takeback::tokens::cancel(a, n1, token))
+        }
+        Some(Code::Resize) => Turn::from(reshape::resize::resize(a, region, n1, n2, n3, n4)),
+        Some(Code::GrowZeroed) => Turn::from(reshape::grow::grow_zeroed(
+            a, region, n1, n2, n3, n4, n5,
         )),
-        Some(Code::Resize) => given(reshape::resize::resize(a, region, n1, n2, n3, n4)),
-        Some(Code::GrowZeroed) => given(reshape::grow::grow_zeroed(a, region, n1, n2, n3, n4, n5)),
-        Some(Code::CopyIn) => copy_in(a, region, source, n1, n2, p),
-        Some(Code::FillIn) => given(calls::write::fill_in(a, region, n1, n2, p)),
-        Some(Code::OwnerWrites) => owner_writes(a, region, n1, n2, n3, p),
-        Some(Code::Create) => done(Arena::with_min_align_and_capacity(region.len(), n1, n3)),
-        None => answered(a, Ok(0), NONE),
+        Some(Code::CopyIn) => {
+            let n = n1.min(source.len());
+            let part = &mut source[..n];
+            write_pattern(part, p);
+            Turn::from(calls::write::copy_in(a, region, part, n2))
+        }
+        Some(Code::FillIn) => Turn::from(calls::write::fill_in(a, region, n1, n2, p)),
+        // The owner of a block writes its pattern there: no request, so no digest.
+        Some(Code::OwnerWrites) => {
+            write_pattern(calls::lend::lend(a, region, n1, n2, n3), p);
+            Turn {
+                arena: a,
+                said: None,
+            }
+        }
+        None => answered(a, Ok(0), None),
     }
 }
 
-// The region is the first `lent` bytes of the space. The source has what is copied in.
+// The region is the first `lent` bytes of the space. The source has what is copied in. All have fixed memory, since no program allocates.
 #[derive(Drop)]
 struct Replay<'a> {
     turn: Turn,
@@ -154,7 +132,7 @@ impl<'a> Replay<'a> {
     // In a region of no bytes.
     fn begun(space: &'a mut [u8], weights: &'a [u64]) -> Replay<'a> {
         Replay {
-            turn: done(Arena::with_min_align_and_capacity(0, 1, 0)),
+            turn: Turn::from(Arena::with_min_align_and_capacity(0, 1, 0)),
             lent: 0,
             space,
             source: [0; BUFFER],
@@ -162,19 +140,15 @@ impl<'a> Replay<'a> {
         }
     }
 
-    // A record of fewer than two bytes leaves all as it is. A creation has a region of its own length.
-    fn run(&mut self, record: &[u8]) {
-        let &[code, p, ..] = record else {
-            return;
-        };
-        let code = Code::try_from(code).ok();
-        if let Some(Code::Create) = code {
-            self.lent = number(record, 8).min(self.space.len());
-            write_pattern(&mut self.space[..self.lent], p);
+    // A creation has a region of its own length.
+    fn run(&mut self, record: Record) {
+        if let Some(Code::Create) = record.code {
+            self.lent = (record.numbers[1] as usize).min(self.space.len());
+            write_pattern(&mut self.space[..self.lent], record.pattern);
         }
         let lent = self.lent.min(self.space.len());
         let region = &mut self.space[..lent];
-        self.turn = ask(self.turn.arena, region, &mut self.source, record, code, p);
+        self.turn = ask(self.turn.arena, region, &mut self.source, record);
     }
 
     fn digest(&self) -> Option<[u8; DIGEST]> {
@@ -185,7 +159,7 @@ impl<'a> Replay<'a> {
             region,
             self.weights,
             said.number,
-            said.token,
+            said.token.unwrap_or_default(),
         ))
     }
 
@@ -194,8 +168,10 @@ impl<'a> Replay<'a> {
         ensures { result ≤ length output.new }
     {
         let mut put = 0;
-        for record in piece.chunks(RECORD) {
-            self.run(record);
+        for bytes in piece.chunks(RECORD) {
+            if let Some(record) = Record::read(bytes) {
+                self.run(record);
+            }
             if let Some(digest) = self.digest() {
                 if let Some(place) = output[put..].first_chunk_mut() {
                     *place = digest;

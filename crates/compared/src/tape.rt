@@ -1,6 +1,4 @@
 // The tape that compare/ writes: records of 24 bytes, and the patterns that they name.
-ghost use Rattle.std.specs.Prelude.{◌<◌};
-
 pub const RECORD: usize = 24;
 
 // What a record asks for, by its first byte.
@@ -51,13 +49,33 @@ impl TryFrom<u8> for Code {
     }
 }
 
+// A record: its code, if it is one, the pattern that it names, and its numbers.
+#[derive(Clone, Copy)]
+pub struct Record {
+    pub code: Option<Code>,
+    pub pattern: u8,
+    pub numbers: [u32; 5],
+}
+
 // 4 bytes, big-endian; 0 where the record is too short.
-pub fn number(record: &[u8], at: usize) -> usize
-    ensures { result < 4294967296 }
-{
-    match record.get(at..).and_then(|rest| rest.first_chunk::<4>()) {
-        Some(four) => u32::from_be_bytes(*four) as usize,
+fn number(bytes: &[u8], at: usize) -> u32 {
+    match bytes.get(at..).and_then(|rest| rest.first_chunk::<4>()) {
+        Some(four) => u32::from_be_bytes(*four),
         None => 0,
+    }
+}
+
+impl Record {
+    // None of fewer than two bytes.
+    pub fn read(bytes: &[u8]) -> Option<Record> {
+        let &[code, pattern, ..] = bytes else {
+            return None;
+        };
+        Some(Record {
+            code: Code::try_from(code).ok(),
+            pattern,
+            numbers: [4, 8, 12, 16, 20].map(|at| number(bytes, at)),
+        })
     }
 }
 

@@ -1,22 +1,11 @@
 // Machines in the middle of a night, as they are after very many requests.
-use arena::creation::emptied;
-use arena::{Arena, Chunk, Head};
+use arena::{Arena, Chunk};
 use requests::Stage;
 use requests::machine::{State, feed, finish};
 use std::io;
 use std::io::Write;
-use trial::row::put_chunk;
+use trial::row::{no_chunk, put_chunk};
 use trial::table::Numbers;
-
-fn no_chunk(region: usize) -> Arena {
-    emptied(Head {
-        region,
-        minimum: 1,
-        limited: 0,
-        limit: 0,
-        count: 0,
-    })
-}
 
 // One chunk of 65,488 bytes at 0, with nothing given out.
 fn one_chunk() -> Arena {

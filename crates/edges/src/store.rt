@@ -1,7 +1,6 @@
 // An arena's record with the bytes that are lent to it, and how both are compared.
-use arena::creation::emptied;
-use arena::{Arena, Head};
-use trial::row::{Plant, are_same};
+use arena::Arena;
+use trial::row::{Plant, are_same, no_chunk};
 
 pub const BYTES: usize = 16384;
 
@@ -13,7 +12,7 @@ pub enum Planted {
     BeforeTheWrite,
 }
 
-// The first lent bytes are the region.
+// The first lent bytes are the region, in fixed memory, since no program allocates.
 #[derive(Clone, Copy)]
 pub struct Store {
     pub arena: Arena,
@@ -26,13 +25,7 @@ impl Store {
     // A record without a region, and full stops.
     pub fn blank() -> Store {
         Store {
-            arena: emptied(Head {
-                region: 0,
-                minimum: 1,
-                limited: 0,
-                limit: 0,
-                count: 0,
-            }),
+            arena: no_chunk(0),
             lent: 0,
             bytes: [b'.'; BYTES],
             planted: None,

@@ -10,7 +10,6 @@ use lib.ListN.{set}
 use borrow.Author.Tests.{eq-eqb}
 use Rattle.rounding.proofs.Tests.{true-not}
 use Rattle.arena.specs.declared.Arena.{Arena}
-use Rattle.arena.specs.declared.Outcome.{Outcome}
 use Rattle.arena.specs.declared.Refusal.{Refusal}
 use Rattle.arena.specs.declared.Refusal.TheVariants.{State}
 use Rattle.arena.specs.declared.change.Change.TheVariants.{Moved, Kept}
@@ -21,11 +20,10 @@ use Rattle.arena.specs.Sound.{sound_of, state_test}
 use Rattle.arena.proofs.Changing.{moves}
 use Rattle.arena.proofs.Refusing.{refused-later, unsound-refused, sound-done}
 use Rattle.arena.proofs.Soundness.{sound-open}
-use Rattle.calls.specs.declared.Answered.{Answered}
 use Rattle.calls.specs.declared.TokenAllocation.{TokenAllocation}
 use Rattle.calls.specs.declared.TokenPlaced.{TokenPlaced}
 use Rattle.calls.specs.Bytes.{after_given}
-use Rattle.calls.specs.Inner.{answered_of, AnsweredBy, token_placed_of, TokenPlacedBy, lent_tests, block_tests, first_of}
+use Rattle.calls.specs.Inner.{AnsweredBy, token_placed_of, TokenPlacedBy, lent_tests, block_tests, first_of}
 use Rattle.calls.specs.Tests.{region_test}
 use Rattle.calls.specs.Write.{lend_answer, lend_of}
 use Rattle.calls.proofs.Testing.{Lent, tests-pass, lent-passes}

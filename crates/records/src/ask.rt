@@ -1,6 +1,6 @@
 // The calls that can answer STATE. Each names the block of one byte at the current pointer where it names one.
 use arena::{Arena, Outcome};
-use calls::Token;
+use calls::{Token, TokenAllocation};
 use std::fmt;
 use trial::number::number_or_0;
 use trial::row::current_pointer;
@@ -74,25 +74,21 @@ pub struct Asked {
     pub arena: Arena,
 }
 
-fn given(got: Outcome<usize>) -> Asked {
-    Asked {
-        refusal: number_or_0(got.answer),
-        arena: got.arena,
+impl<T: Copy> From<Outcome<T>> for Asked {
+    fn from(got: Outcome<T>) -> Asked {
+        Asked {
+            refusal: number_or_0(got.answer),
+            arena: got.arena,
+        }
     }
 }
 
-fn done(got: Outcome<()>) -> Asked {
-    Asked {
-        refusal: number_or_0(got.answer),
-        arena: got.arena,
-    }
-}
-
-fn with_token(a: Arena, region: &[u8]) -> Asked {
-    let got = takeback::tokens::allocate_with_token(a, region, 1, 1);
-    Asked {
-        refusal: number_or_0(got.answer),
-        arena: got.arena,
+impl From<TokenAllocation> for Asked {
+    fn from(got: TokenAllocation) -> Asked {
+        Asked {
+            refusal: number_or_0(got.answer),
+            arena: got.arena,
+        }
     }
 }
 
@@ -101,7 +97,7 @@ fn cancel(a: Arena, p: usize) -> Asked {
         count: a.head.count,
         pointer: p,
     };
-    done(takeback::tokens::cancel(a, p, token))
+    Asked::from(takeback::tokens::cancel(a, p, token))
 }
 
 // This and the next two hand no record back.
@@ -131,19 +127,21 @@ fn walk(a: Arena, region: &[u8]) -> Asked {
 pub fn ask(call: Call, a: Arena, region: &mut [u8]) -> Asked {
     let p = current_pointer(&a).unwrap_or(0);
     match call {
-        Call::Allocate => given(calls::allocate::allocate(a, region, 1, 1)),
-        Call::AllocateWithToken => with_token(a, region),
-        Call::CopyIn => given(calls::write::copy_in(a, region, b"x", 1)),
-        Call::Fill => given(calls::write::fill_in(a, region, 1, 1, b'x')),
-        Call::Grow => given(reshape::grow::grow(a, region, p, 1, 1, 2, 1)),
-        Call::GrowZeroed => given(reshape::grow::grow_zeroed(a, region, p, 1, 1, 2, 1)),
-        Call::Shrink => given(reshape::shrink::shrink(a, region, p, 1, 1, 0, 1)),
-        Call::Resize => given(reshape::resize::resize(a, region, p, 1, 1, 2)),
-        Call::Free => done(calls::free::free(a, p, 1, 1)),
+        Call::Allocate => Asked::from(calls::allocate::allocate(a, region, 1, 1)),
+        Call::AllocateWithToken => Asked::from(takeback::tokens::allocate_with_token(
+            a, region, 1, 1,
+        )),
+        Call::CopyIn => Asked::from(calls::write::copy_in(a, region, b"x", 1)),
+        Call::Fill => Asked::from(calls::write::fill_in(a, region, 1, 1, b'x')),
+        Call::Grow => Asked::from(reshape::grow::grow(a, region, p, 1, 1, 2, 1)),
+        Call::GrowZeroed => Asked::from(reshape::grow::grow_zeroed(a, region, p, 1, 1, 2, 1)),
+        Call::Shrink => Asked::from(reshape::shrink::shrink(a, region, p, 1, 1, 0, 1)),
+        Call::Resize => Asked::from(reshape::resize::resize(a, region, p, 1, 1, 2)),
+        Call::Free => Asked::from(calls::free::free(a, p, 1, 1)),
         Call::Cancel => cancel(a, p),
-        Call::Reset => done(a.reset()),
-        Call::SetLimit => done(a.set_allocation_limit(448)),
-        Call::NoLimit => done(a.no_allocation_limit()),
+        Call::Reset => Asked::from(a.reset()),
+        Call::SetLimit => Asked::from(a.set_allocation_limit(448)),
+        Call::NoLimit => Asked::from(a.no_allocation_limit()),
         Call::Lend => lend(a, region, p),
         Call::LendAnswer => lend_answer(a, region, p),
         Call::Walk => walk(a, region),

@@ -6,33 +6,33 @@ ghost use Rattle.std.specs.Prelude.{◌≡◌, ◌≤◌, true};
 ghost use Rattle.arena.specs.Numbers.{most};
 ghost use Rattle.arena.specs.Sound.{allowed_align};
 
-use arena::creation::emptied;
 use arena::ladder::{climb, held_bytes, take_rung};
 use arena::placing::lowest_place;
 use arena::sizing::usable_size;
 use arena::sound::is_allowed_align;
-use arena::{Arena, Chunk, Head};
+use arena::{Arena, Chunk};
 use std::io::Write;
 use std::{fmt, io};
-use trial::row::put_chunk;
+use trial::row::{no_chunk, put_chunk};
 use trial::table::{each_line, first_numbers, read_numbers, split_before};
 
-// What a rule says.
+// What a rule says: a usable size, the chunk of a rung or the usable size that it doesn't serve, the chunk that the ladder comes to, or a place.
 #[derive(Clone, Copy)]
 enum Said {
-    Number(usize),
-    Chunk(Chunk),
-    Unserved(usize),
-    Nothing,
+    Usable(usize),
+    Rung(Result<Chunk, usize>),
+    Ladder(Option<Chunk>),
+    Place(Option<usize>),
 }
 
 impl fmt::Display for Said {
     fn fmt<W: fmt::Write>(&self, f: &mut fmt::Formatter<W>) -> fmt::Result {
         match *self {
-            Said::Number(n) => write!(f, "{n}"),
-            Said::Chunk(c) => write!(f, "{} at {}", c.size, c.start),
-            Said::Unserved(n) => write!(f, "{n} not served"),
-            Said::Nothing => f.write_str("none"),
+            Said::Usable(n) => write!(f, "{n}"),
+            Said::Rung(Ok(c)) | Said::Ladder(Some(c)) => write!(f, "{} at {}", c.size, c.start),
+            Said::Rung(Err(n)) => write!(f, "{n} not served"),
+            Said::Place(Some(at)) => write!(f, "{at}"),
+            Said::Ladder(None) | Said::Place(None) => f.write_str("none"),
         }
     }
 }
@@ -51,7 +51,7 @@ fn ask_usable(base: usize, size: usize, align: usize) -> Option<Said> {
     if !is_request(size, align) {
         return None;
     }
-    Some(Said::Number(usable_size(base, size, align)))
+    Some(Said::Usable(usable_size(base, size, align)))
 }
 
 // One rung, whether the ladder comes to it or not.
@@ -64,10 +64,8 @@ fn ask_rung(a: Arena, base: usize, size: usize, align: usize) -> Option<Said> {
         return None;
     }
     let held = held_bytes(&sound.lent);
-    Some(match take_rung(&sound.lent, held, size, align, base) {
-        Some(c) => Said::Chunk(c),
-        None => Said::Unserved(usable_size(base, size, align)),
-    })
+    let got = take_rung(&sound.lent, held, size, align, base);
+    Some(Said::Rung(got.ok_or(usable_size(base, size, align))))
 }
 
 fn ask_ladder(a: Arena, size: usize, align: usize) -> Option<Said> {
@@ -75,7 +73,7 @@ fn ask_ladder(a: Arena, size: usize, align: usize) -> Option<Said> {
     if !is_request(size, align) {
         return None;
     }
-    Some(climb(&sound.lent, size, align).map_or(Said::Nothing, Said::Chunk))
+    Some(Said::Ladder(climb(&sound.lent, size, align)))
 }
 
 fn ask_place(a: Arena, n: usize, multiple: usize) -> Option<Said> {
@@ -89,7 +87,7 @@ fn ask_place(a: Arena, n: usize, multiple: usize) -> Option<Said> {
     if Arena::LARGEST_ALIGN < multiple {
         return None;
     }
-    Some(lowest_place(&sound.lent, multiple, n).map_or(Said::Nothing, Said::Number))
+    Some(Said::Place(lowest_place(&sound.lent, multiple, n)))
 }
 
 fn show_said<W: Write>(out: &mut W, said: Option<Said>) -> io::Result<()> {
@@ -104,17 +102,12 @@ fn show_said<W: Write>(out: &mut W, said: Option<Said>) -> io::Result<()> {
 fn record_of(text: &[u8]) -> Arena {
     let mut numbers = read_numbers(text);
     let is_limited = numbers.count() % 2 == 0;
-    let mut a = emptied(Head {
-        region: numbers.next().unwrap_or(0),
-        minimum: 1,
-        limited: 0,
-        limit: 0,
-        count: 0,
-    });
+    let mut a = no_chunk(numbers.next().unwrap_or(0));
     if is_limited {
         a.head.limited = 1;
         a.head.limit = numbers.next().unwrap_or(0);
     }
+    // A chunk's place is its number, and its own numbers are taken two by two.
     for place in 0..Arena::PLACES {
         let (Some(size), Some(start)) = (numbers.next(), numbers.next()) else {
             break;

@@ -1,13 +1,29 @@
 // The record as a row of 101 numbers: region, minimum, limited, limit and count, and then the columns of starts, sizes and pointers. And changes that are planted in
 // a record or in bytes after a call, to see that each is seen.
-ghost use Rattle.std.specs.Prelude.{◌≡◌, ◌≤◌, ◌↔◌, ◌-◌, ℕ, IfSome, IsTrue, None, slice_index};
+ghost use Rattle.std.specs.Prelude.{◌≡◌, ◌≤◌, ◌↔◌, ◌-◌, ℕ, [], IfSome, IsTrue, None, slice_index};
+ghost use Rattle.arena.specs.Record.{holding};
+ghost use Rattle.arena.specs.Creation.{fresh_head};
 ghost use Rattle.trial.specs.declared.row.Plant.TheVariants.{Number, Byte};
 
-use arena::{Arena, Chunk};
+use arena::creation::emptied;
+use arena::{Arena, Chunk, Head};
 
 pub const NUMBERS: usize = 101;
 
-// None past the end of the row.
+// The record of a region of this length with no chunk, minimum 1 and no limit.
+pub fn no_chunk(region: usize) -> Arena
+    ensures { result ≡ holding (fresh_head region 1) [] }
+{
+    emptied(Head {
+        region,
+        minimum: 1,
+        limited: 0,
+        limit: 0,
+        count: 0,
+    })
+}
+
+// None past the end of the row. The numbers are matched, since a row is what has no names.
 fn number_at(a: &mut Arena, k: usize) -> Option<&mut usize> {
     match k {
         0 => Some(&mut a.head.region),

@@ -31,7 +31,7 @@ impl<R: Read> Read for Retrying<R> {
     }
 }
 
-// Reads until the bytes are full or the input ends, and answers how many were read. Where a read fails, the reader has lost what earlier reads took; the bytes may
+// Reads until the bytes are full or the input ends, and answers how many were read. The library's read_exact fails where the input ends. Where a read fails, the reader has lost what earlier reads took; the bytes may
 // be any, and are as many.
 pub fn read_full<R: Read>(input: &mut R, bytes: &mut [u8]) -> io::Result<usize>
     ensures bound { ReadsAtMost result bytes.new }
@@ -51,7 +51,7 @@ pub fn read_full<R: Read>(input: &mut R, bytes: &mut [u8]) -> io::Result<usize>
     Ok(done)
 }
 
-// Reads a table of up to 65,536 bytes and runs each of its lines.
+// Reads a table of up to 65,536 bytes and runs each of its lines. The table has fixed memory, since no program allocates.
 pub fn each_line<R: Read, F: FnMut(&[u8]) -> io::Result<()>>(
     input: &mut R,
     mut run_line: F,

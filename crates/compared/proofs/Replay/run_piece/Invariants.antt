@@ -2,8 +2,8 @@
 use Rattle.std.proofs.Common.{◌≤◌, length}
 use Rattle.compared.proofs.Replay.run_piece.Given as goal
 
-abbrev pub invariant-loop-record : goal.invariant-loop-record
-invariant-loop-record l =
-    (goal.iterator-loop-record).can_next l.record-iterator ×
-    (goal.iterator-loop-record).is_finite l.record-iterator ×
+abbrev pub invariant-loop-bytes : goal.invariant-loop-bytes
+invariant-loop-bytes l =
+    (goal.iterator-loop-bytes).can_next l.bytes-iterator ×
+    (goal.iterator-loop-bytes).is_finite l.bytes-iterator ×
     (l.put ≤ length l.output)
