@@ -3,6 +3,7 @@
 use mathlib.Core.Path.{sym, ◌∙◌, ap}
 use lib.ListN.{length}
 use Rattle.arena.specs.declared.Arena.{Arena}
+use Rattle.arena.specs.Refusals.{Allocation}
 use Rattle.calls.specs.Inner.{lent_tests, first_of}
 use Rattle.calls.proofs.Requests.{allocate-lent}
 use Rattle.host.specs.Said.{said_given}
@@ -15,4 +16,7 @@ returns-in-Err c =
     let n = length s.region.now in
     let stopped =
     allocate-lent s.arena.now n s.size s.align (sym (ap (λ (a : Arena). first_of (lent_tests a n)) c.lent.ensures) ∙ c.in-Err.ensures.err) in
-    record { value = rw stopped c.into.ensures; arena_after = rw stopped }
+    record {
+      value = c.into.ensures ∙ sym (ap (λ (o : Allocation). said_given o.answer) stopped);
+      arena_after = sym (ap (λ (o : Allocation). o.arena) stopped);
+    }

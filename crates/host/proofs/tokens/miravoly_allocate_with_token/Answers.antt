@@ -4,12 +4,15 @@ use mathlib.Core.Path.{sym, ◌∙◌, ap}
 use lib.ListN.{length}
 use Rattle.arena.specs.declared.Arena.{Arena}
 use Rattle.arena.specs.Inner.{lent_of}
+use Rattle.arena.specs.Record.{held_of}
+use Rattle.arena.specs.Refusals.{Allocation}
+use Rattle.std.specs.Prelude.{Err}
 use Rattle.calls.specs.declared.TokenAllocation.{TokenAllocation}
-use Rattle.calls.specs.Inner.{lent_tests, first_of, token_placed_of}
-use Rattle.calls.specs.Token.{token_given, with_token_of}
+use Rattle.calls.specs.Inner.{lent_tests, first_of, with_token, token_placed_of}
+use Rattle.calls.specs.Token.{token_for, token_given, with_token_of}
 use Rattle.calls.proofs.Cancelling.{no-token}
 use Rattle.calls.proofs.Requests.{allocate-lent}
-use Rattle.host.specs.Said.{said_token}
+use Rattle.host.specs.Said.{token_said, said_token}
 use Rattle.host.proofs.tokens.miravoly_allocate_with_token.Goals as goal
 
 pub returns-in-Err : goal.returns-in-Err
@@ -18,7 +21,12 @@ returns-in-Err c =
     let s = c.args in
     let n = length s.region.now in
     let stopped = allocate-lent s.arena.now n s.size s.align (sym (ap (λ (a : Arena). first_of (lent_tests a n)) c.lent.ensures) ∙ c.in-Err.ensures.err) in
-    record { value = rw (stopped, c.said_token.ensures, no-token c.default.ensures); arena_after = rw stopped }
+    record {
+      value = c.said_token.ensures
+          ∙ ap (token_said (Err c.in-Err.r)) (no-token c.default.ensures)
+          ∙ sym (ap (λ (o : Allocation). said_token (with_token o (token_for (held_of s.arena.now)))) stopped);
+      arena_after = sym (ap (λ (o : Allocation). o.arena) stopped);
+    }
 
 pub returns : goal.returns
 unfolding said_token

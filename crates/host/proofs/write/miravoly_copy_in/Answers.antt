@@ -1,6 +1,7 @@
 -- `host::write::miravoly_copy_in` meets its contract: an unsound record or another region's length is refused, and the rest is the sound record's.
 -- Assumes nothing.
 use Prim.Native.Nat.{ℕ}
+use mathlib.Core.List.{List}
 use mathlib.Core.Path.{sym, ◌∙◌, ap}
 use lib.ListN.{length}
 use Rattle.arena.specs.declared.Arena.{Arena}
@@ -24,7 +25,12 @@ returns-in-Err c =
     let n = length s.region.now in
     let stopped =
     allocate-lent s.arena.now n (length s.source.now) s.align (sym (ap (λ (a : Arena). first_of (lent_tests a n)) c.lent.ensures) ∙ c.in-Err.ensures.err) in
-    record { value = rw stopped c.into.ensures; arena_after = rw stopped; region_after = rw stopped }
+    let copied : ℕ → List ℕ = λ at. written s.region.now at s.source.now in
+    record {
+      value = rw stopped c.into.ensures;
+      arena_after = rw stopped;
+      region_after = sym (ap (λ (o : Allocation). after_given o.answer copied s.region.now) stopped);
+    }
 
 pub copy_from-requires : goal.copy_from-requires
 copy_from-requires c =
