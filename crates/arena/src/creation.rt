@@ -6,6 +6,7 @@ ghost use Rattle.arena.specs.Sound.{sound_of};
 ghost use Rattle.arena.specs.Creation.{refused_creation, created_of};
 
 use crate::ladder::take_rung;
+use crate::layout::Layout;
 use crate::sound::is_allowed_minimum;
 use crate::{Arena, Chunk, Head, Outcome, Refusal};
 
@@ -84,7 +85,11 @@ impl Arena {
                 arena: fresh,
             };
         }
-        let got = take_rung(&fresh.lent(), 0, capacity, minimum, Arena::DEFAULT_SIZE);
+        let layout = Layout {
+            size: capacity,
+            align: minimum,
+        };
+        let got = take_rung(&fresh.lent(), 0, layout, Arena::DEFAULT_SIZE);
         let Some(c) = got else {
             return refused_creation(Refusal::Room);
         };

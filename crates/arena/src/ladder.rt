@@ -6,6 +6,7 @@ ghost use Rattle.arena.specs.Sound.{allowed_align};
 ghost use Rattle.arena.specs.Ladder.{held_bytes, first_base, tried, under_limit, rung_chunk, ladder};
 ghost use Rattle.arena.specs.Inner.{lent_of, Ready};
 
+use crate::layout::Layout;
 use crate::lent::Lent;
 use crate::placing::lowest_place;
 use crate::sizing::usable_size;
@@ -69,21 +70,21 @@ fn is_under_limit(h: Head, held: usize, n: usize) -> bool
 }
 
 // The chunk that a rung gives. The held bytes are handed in, since they are the same at every rung.
-pub fn take_rung(a: &Lent, held: usize, size: usize, align: usize, base: usize) -> Option<Chunk>
+pub fn take_rung(a: &Lent, held: usize, layout: Layout, base: usize) -> Option<Chunk>
     requires ready { Ready a.now.head (held_of (lent_of a.now)) }
-    requires size_le_most { (size ≤ most) × (allowed_align align ≡ true) × (base ≤ 2 ^ 31) }
+    requires size_le_most { (layout.size ≤ most) × (allowed_align layout.align ≡ true) × (base ≤ 2 ^ 31) }
     requires held_value { held ≡ held_bytes (held_of (lent_of a.now)) }
-    ensures { result ≡ rung_chunk a.now.head (held_of (lent_of a.now)) size align base }
+    ensures { result ≡ rung_chunk a.now.head (held_of (lent_of a.now)) layout.size layout.align base }
 {
     let h = a.head;
-    let n = usable_size(base, size, align);
+    let n = usable_size(base, layout);
     if !is_under_limit(h, held, n) {
         return None;
     }
     if Arena::PLACES <= h.count {
         return None;
     }
-    let start = lowest_place(a, Arena::STEP.max(align), n)?;
+    let start = lowest_place(a, Arena::STEP.max(layout.align), n)?;
     Some(Chunk {
         start,
         size: n,
@@ -91,16 +92,16 @@ pub fn take_rung(a: &Lent, held: usize, size: usize, align: usize, base: usize) 
     })
 }
 
-pub fn climb(a: &Lent, size: usize, align: usize) -> Option<Chunk>
+pub fn climb(a: &Lent, layout: Layout) -> Option<Chunk>
     requires ready { Ready a.now.head (held_of (lent_of a.now)) }
-    requires size_le_most { (size ≤ most) × (allowed_align align ≡ true) }
-    ensures { result ≡ ladder a.now.head (held_of (lent_of a.now)) size align }
+    requires size_le_most { (layout.size ≤ most) × (allowed_align layout.align ≡ true) }
+    ensures { result ≡ ladder a.now.head (held_of (lent_of a.now)) layout.size layout.align }
 {
     let h = a.head;
     let held = held_bytes(a);
-    let mut base = first_base(a, size);
-    while is_tried(h, held, size, base) {
-        if let Some(c) = take_rung(a, held, size, align, base) {
+    let mut base = first_base(a, layout.size);
+    while is_tried(h, held, layout.size, base) {
+        if let Some(c) = take_rung(a, held, layout, base) {
             return Some(c);
         }
         if base == 0 {

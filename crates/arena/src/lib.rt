@@ -4,6 +4,7 @@
 pub mod change;
 pub mod creation;
 pub mod ladder;
+pub mod layout;
 pub mod lent;
 mod limit;
 pub mod placing;

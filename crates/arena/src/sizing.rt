@@ -5,6 +5,7 @@ ghost use Rattle.arena.specs.Sound.{allowed_align};
 ghost use Rattle.arena.specs.Sizing.{usable_for, usable};
 
 use crate::Arena;
+use crate::layout::Layout;
 
 #[tactic(auto, unfolding(crate::specs::Sizing::usable_for))]
 fn usable_for(m: usize) -> usize
@@ -18,10 +19,10 @@ fn usable_for(m: usize) -> usize
 }
 
 #[tactic(auto, unfolding(crate::specs::Sizing::usable, crate::specs::Sizing::wanted, crate::specs::Sound::allowed_align))]
-pub fn usable_size(base: usize, size: usize, align: usize) -> usize
-    requires { (base ≤ 2 ^ 31) × (size ≤ most) × (allowed_align align ≡ true) }
-    ensures { result ≡ usable base size align }
+pub fn usable_size(base: usize, layout: Layout) -> usize
+    requires { (base ≤ 2 ^ 31) × (layout.size ≤ most) × (allowed_align layout.align ≡ true) }
+    ensures { result ≡ usable base layout.size layout.align }
 {
-    let rounded = rounding::round_up_to(size, Arena::STEP.max(align));
+    let rounded = rounding::round_up_to(layout.size, Arena::STEP.max(layout.align));
     usable_for(base.max(rounded))
 }

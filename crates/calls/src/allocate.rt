@@ -14,6 +14,7 @@ use crate::fast::{chunk_gives, current_gives};
 use crate::refusals::lent_sound;
 use arena::change::Change;
 use arena::ladder::climb;
+use arena::layout::Layout;
 use arena::sound::{Sound, is_allowed_align};
 use arena::{Arena, Chunk, Outcome, Refusal};
 
@@ -30,14 +31,14 @@ impl Answered<usize> {
 }
 
 // The ladder's part: a new chunk becomes current and gives the block.
-fn placed_slow(a: &Sound, size: usize, align: usize) -> Answered<usize>
-    requires { (size ≤ most) × (allowed_align align ≡ true) }
-    ensures { AnsweredBy (λ r. given None r (new_chunk_gives r.head.minimum (held_of r) (ladder r.head (held_of r) size align) size align)) (lent_of a.now.lent) result }
+fn placed_slow(a: &Sound, layout: Layout) -> Answered<usize>
+    requires { (layout.size ≤ most) × (allowed_align layout.align ≡ true) }
+    ensures { AnsweredBy (λ r. given None r (new_chunk_gives r.head.minimum (held_of r) (ladder r.head (held_of r) layout.size layout.align) layout.size layout.align)) (lent_of a.now.lent) result }
 {
-    let Some(c) = climb(&a.lent, size, align) else {
+    let Some(c) = climb(&a.lent, layout) else {
         return Answered::refused(Refusal::Room);
     };
-    let Some(pointer) = chunk_gives(a.lent.head.minimum, c, size, align) else {
+    let Some(pointer) = chunk_gives(a.lent.head.minimum, c, layout) else {
         return Answered::refused(Refusal::Room);
     };
     Answered {
@@ -47,45 +48,45 @@ fn placed_slow(a: &Sound, size: usize, align: usize) -> Answered<usize>
 }
 
 // Every test and every way to serve, in the record's own region. It has several callers and is long, so that the compiler leaves it a function of its own.
-pub fn allocate_in_full(a: &Sound, size: usize, align: usize) -> Answered<usize>
-    ensures { AnsweredBy (λ r. allocate_of r r.head.region size align) (lent_of a.now.lent) result }
+pub fn allocate_in_full(a: &Sound, layout: Layout) -> Answered<usize>
+    ensures { AnsweredBy (λ r. allocate_of r r.head.region layout.size layout.align) (lent_of a.now.lent) result }
 {
-    if Arena::MOST < size {
+    if Arena::MOST < layout.size {
         return Answered::refused(Refusal::Size);
     }
-    if !is_allowed_align(align) {
+    if !is_allowed_align(layout.align) {
         return Answered::refused(Refusal::Align);
     }
-    let Some(p) = current_gives(a, size, align) else {
-        return placed_slow(a, size, align);
+    let Some(p) = current_gives(a, layout) else {
+        return placed_slow(a, layout);
     };
     Answered::moved(p)
 }
 
 // The current chunk's block, where nothing refuses the request.
-pub fn allocate_fast(a: &Sound, size: usize, align: usize) -> Option<usize>
-    ensures { FastBy (λ r. allocate_of r r.head.region size align) (lent_of a.now.lent) result }
+pub fn allocate_fast(a: &Sound, layout: Layout) -> Option<usize>
+    ensures { FastBy (λ r. allocate_of r r.head.region layout.size layout.align) (lent_of a.now.lent) result }
 {
     if a.lent.head.count == 0 {
         return None;
     }
-    if Arena::MOST < size {
+    if Arena::MOST < layout.size {
         return None;
     }
-    if !is_allowed_align(align) {
+    if !is_allowed_align(layout.align) {
         return None;
     }
-    current_gives(a, size, align)
+    current_gives(a, layout)
 }
 
 // The same as in full. It is short, so that the compiler puts it into its callers; the record that the long way is lent is a copy made on that way alone, or each
 // call would store its parts.
-pub fn allocate_placed(a: &Sound, size: usize, align: usize) -> Answered<usize>
-    ensures { AnsweredBy (λ r. allocate_of r r.head.region size align) (lent_of a.now.lent) result }
+pub fn allocate_placed(a: &Sound, layout: Layout) -> Answered<usize>
+    ensures { AnsweredBy (λ r. allocate_of r r.head.region layout.size layout.align) (lent_of a.now.lent) result }
 {
-    let Some(p) = allocate_fast(a, size, align) else {
+    let Some(p) = allocate_fast(a, layout) else {
         let copy = *a;
-        return allocate_in_full(&copy, size, align);
+        return allocate_in_full(&copy, layout);
     };
     Answered::moved(p)
 }
@@ -98,7 +99,7 @@ pub fn allocate(a: Arena, region: &[u8], size: usize, align: usize) -> Outcome<u
         Ok(sound) => sound,
         Err(r) => return Outcome::refused(a, r),
     };
-    let got = allocate_placed(&sound, size, align);
+    let got = allocate_placed(&sound, Layout { size, align });
     Outcome {
         answer: got.answer,
         arena: a.changed(got.change),

@@ -7,6 +7,7 @@ ghost use Rattle.arena.specs.Numbers.{most};
 ghost use Rattle.arena.specs.Sound.{allowed_align};
 
 use arena::ladder::{climb, held_bytes, take_rung};
+use arena::layout::Layout;
 use arena::placing::lowest_place;
 use arena::sizing::usable_size;
 use arena::sound::is_allowed_align;
@@ -37,43 +38,43 @@ impl fmt::Display for Said {
     }
 }
 
-fn is_request(size: usize, align: usize) -> bool
-    ensures { (result ≡ true) → (size ≤ most) × (allowed_align align ≡ true) }
+fn is_request(layout: Layout) -> bool
+    ensures { (result ≡ true) → (layout.size ≤ most) × (allowed_align layout.align ≡ true) }
 {
-    size <= Arena::MOST && is_allowed_align(align)
+    layout.size <= Arena::MOST && is_allowed_align(layout.align)
 }
 
 // A rule isn't asked where the record is unsound or the request isn't allowed.
-fn ask_usable(base: usize, size: usize, align: usize) -> Option<Said> {
+fn ask_usable(base: usize, layout: Layout) -> Option<Said> {
     if Arena::MOST < base {
         return None;
     }
-    if !is_request(size, align) {
+    if !is_request(layout) {
         return None;
     }
-    Some(Said::Usable(usable_size(base, size, align)))
+    Some(Said::Usable(usable_size(base, layout)))
 }
 
 // One rung, whether the ladder comes to it or not.
-fn ask_rung(a: Arena, base: usize, size: usize, align: usize) -> Option<Said> {
+fn ask_rung(a: Arena, base: usize, layout: Layout) -> Option<Said> {
     let sound = a.sound()?;
     if Arena::MOST < base {
         return None;
     }
-    if !is_request(size, align) {
+    if !is_request(layout) {
         return None;
     }
     let held = held_bytes(&sound.lent);
-    let got = take_rung(&sound.lent, held, size, align, base);
-    Some(Said::Rung(got.ok_or(usable_size(base, size, align))))
+    let got = take_rung(&sound.lent, held, layout, base);
+    Some(Said::Rung(got.ok_or(usable_size(base, layout))))
 }
 
-fn ask_ladder(a: Arena, size: usize, align: usize) -> Option<Said> {
+fn ask_ladder(a: Arena, layout: Layout) -> Option<Said> {
     let sound = a.sound()?;
-    if !is_request(size, align) {
+    if !is_request(layout) {
         return None;
     }
-    Some(Said::Ladder(climb(&sound.lent, size, align)))
+    Some(Said::Ladder(climb(&sound.lent, layout)))
 }
 
 fn ask_place(a: Arena, n: usize, multiple: usize) -> Option<Said> {
@@ -128,10 +129,10 @@ fn record_of(text: &[u8]) -> Arena {
 fn show_question<W: Write>(out: &mut W, a: Arena, question: &[u8]) -> io::Result<()> {
     let [x, y, z] = first_numbers::<3>(question);
     if question.starts_with(b": rung ") {
-        return show_said(out, ask_rung(a, x, y, z));
+        return show_said(out, ask_rung(a, x, Layout { size: y, align: z }));
     }
     if question.starts_with(b": ladder ") {
-        return show_said(out, ask_ladder(a, x, y));
+        return show_said(out, ask_ladder(a, Layout { size: x, align: y }));
     }
     if question.starts_with(b": place ") {
         return show_said(out, ask_place(a, x, y));
@@ -144,7 +145,7 @@ fn run_line<W: Write>(out: &mut W, line: &[u8]) -> io::Result<()> {
     if line.starts_with(b"usable ") {
         out.write_all(line)?;
         let [base, size, align] = first_numbers::<3>(line);
-        return show_said(out, ask_usable(base, size, align));
+        return show_said(out, ask_usable(base, Layout { size, align }));
     }
     if line.starts_with(b"region ") {
         out.write_all(line)?;

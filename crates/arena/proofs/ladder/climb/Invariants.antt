@@ -4,8 +4,8 @@ use Rattle.arena.specs.Record.{chunks_of}
 use Rattle.arena.proofs.Rungs.{Climbed}
 use Rattle.arena.proofs.ladder.climb.Given as goal
 
-abbrev pub invariant-loop-h : goal.invariant-loop-h
-invariant-loop-h l = Climbed l.a.head (chunks_of l.a.starts.now l.a.sizes.now l.a.pointers.now l.a.head.count) l.size l.align l.base
+abbrev pub invariant-loop-layout : goal.invariant-loop-layout
+invariant-loop-layout l = Climbed l.a.head (chunks_of l.a.starts.now l.a.sizes.now l.a.pointers.now l.a.head.count) l.layout.size l.layout.align l.base
 
-abbrev pub decreases-loop-h : goal.decreases-loop-h
-decreases-loop-h l = l.base
+abbrev pub decreases-loop-layout : goal.decreases-loop-layout
+decreases-loop-layout l = l.base

@@ -26,8 +26,8 @@ returns-then-h-ge-PLACES c =
 
 pub lowest_place-requires : goal.lowest_place-requires
 lowest_place-requires c =
-    let align = align-open c.args.align c.requires.size_le_most.1 in
-    let bound = usable-bound c.args.base c.args.size c.args.align c.requires.size_le_most.2 c.requires.size_le_most.0 align.bound in
+    let align = align-open c.args.layout.align c.requires.size_le_most.1 in
+    let bound = usable-bound c.args.base c.args.layout.size c.args.layout.align c.requires.size_le_most.2 c.requires.size_le_most.0 align.bound in
     record {
       ready = c.requires.ready;
       align_nonzero = (omega arith, omega (arith, align.bound), omega (arith, bound));
@@ -35,7 +35,7 @@ lowest_place-requires c =
 
 pub returns-in_err-start : goal.returns-in_err-start
 returns-in_err-start c =
-    let placed : (let cs = held_of (lent_of c.args.a.now) in let n = c.usable_size-n.result in rung_chunk c.args.a.now.head cs c.args.size c.args.align c.args.base ≡ option_map (new_chunk n) (lowest_place c.args.a.now.head.region cs c.max.result n)) = rung-placed _ _ _ _ _ c.requires.held_value
+    let placed : (let cs = held_of (lent_of c.args.a.now) in let n = c.usable_size-n.result in rung_chunk c.args.a.now.head cs c.args.layout.size c.args.layout.align c.args.base ≡ option_map (new_chunk n) (lowest_place c.args.a.now.head.region cs c.max.result n)) = rung-placed _ _ _ _ _ c.requires.held_value
     c.usable_size-n.ensures
     c.max.ensures
     (sym c.is_under_limit.ensures ∙ c.if-not-is_under_limit.false)
@@ -44,14 +44,14 @@ returns-in_err-start c =
 
 pub overflow_add-result : goal.overflow_add-result
 overflow_add-result c =
-    let align = align-open c.args.align c.requires.size_le_most.1 in
+    let align = align-open c.args.layout.align c.requires.size_le_most.1 in
     let found = sym c.lowest_place.ensures ∙ c.in_ok-start.was in
     let fits = (lowest-fits c.args.a.now.head.region _ _ {a = c.max.result} (omega arith) found).1 in
     omega (arith, fits.inside, c.requires.ready.region_bound)
 
 pub returns : goal.returns
 returns c =
-    let placed : (let cs = held_of (lent_of c.args.a.now) in let n = c.usable_size-n.result in rung_chunk c.args.a.now.head cs c.args.size c.args.align c.args.base ≡ option_map (new_chunk n) (lowest_place c.args.a.now.head.region cs c.max.result n)) = rung-placed _ _ _ _ _ c.requires.held_value
+    let placed : (let cs = held_of (lent_of c.args.a.now) in let n = c.usable_size-n.result in rung_chunk c.args.a.now.head cs c.args.layout.size c.args.layout.align c.args.base ≡ option_map (new_chunk n) (lowest_place c.args.a.now.head.region cs c.max.result n)) = rung-placed _ _ _ _ _ c.requires.held_value
     c.usable_size-n.ensures
     c.max.ensures
     (sym c.is_under_limit.ensures ∙ c.if-not-is_under_limit.false)

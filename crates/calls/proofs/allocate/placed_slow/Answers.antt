@@ -26,25 +26,25 @@ unfolding new_chunk_gives
 returns-in_default c =
     let a = lent_of c.args.a.now.lent in
     let nothing = sym c.climb.ensures ∙ c.in_default.is in
-    placed-nowhere a c.refused.ensures (ap (λ o. new_chunk_gives a.head.minimum (held_of a) o c.args.size c.args.align) nothing)
+    placed-nowhere a c.refused.ensures (ap (λ o. new_chunk_gives a.head.minimum (held_of a) o c.args.layout.size c.args.layout.align) nothing)
 
 pub chunk_gives-requires : goal.chunk_gives-requires
 chunk_gives-requires c = tested-bounds (sound-tested c.args.a.now.sound c.requires)
 
 pub returns-in_default-chunk_gives : goal.returns-in_default-chunk_gives
 returns-in_default-chunk_gives c =
-    let new-chunk : ladder c.args.a.now.lent.head (held_of (lent_of c.args.a.now.lent)) c.args.size c.args.align ≡ Some c.in-Some.c = sym c.climb.ensures ∙ c.in-Some.is in
+    let new-chunk : ladder c.args.a.now.lent.head (held_of (lent_of c.args.a.now.lent)) c.args.layout.size c.args.layout.align ≡ Some c.in-Some.c = sym c.climb.ensures ∙ c.in-Some.is in
     let a = lent_of c.args.a.now.lent in
     let full = sym c.chunk_gives.ensures ∙ c.in_default-chunk_gives.is in
-    placed-nowhere a c.refused-in_default-chunk_gives.ensures (new-chunk-gives a.head.minimum _ c.args.size c.args.align (held_of a) new-chunk full)
+    placed-nowhere a c.refused-in_default-chunk_gives.ensures (new-chunk-gives a.head.minimum _ c.args.layout.size c.args.layout.align (held_of a) new-chunk full)
 
 pub returns : goal.returns
 returns c =
-    let new-chunk : ladder c.args.a.now.lent.head (held_of (lent_of c.args.a.now.lent)) c.args.size c.args.align ≡ Some c.in-Some.c = sym c.climb.ensures ∙ c.in-Some.is in
+    let new-chunk : ladder c.args.a.now.lent.head (held_of (lent_of c.args.a.now.lent)) c.args.layout.size c.args.layout.align ≡ Some c.in-Some.c = sym c.climb.ensures ∙ c.in-Some.is in
     let a = lent_of c.args.a.now.lent in
     let room = sym c.chunk_gives.ensures ∙ c.in-Some-chunk_gives.is in
-    let rung = ladder-served a.head (held_of a) c.args.size c.args.align new-chunk in
-    let power = (align-open c.args.align c.requires.1).power in
-    let fresh = rung-fresh a.head (held_of a) c.args.size rung.base power rung.gives in
-    placed-added a (new-chunk-gives a.head.minimum _ c.args.size c.args.align (held_of a) new-chunk room)
+    let rung = ladder-served a.head (held_of a) c.args.layout.size c.args.layout.align new-chunk in
+    let power = (align-open c.args.layout.align c.requires.1).power in
+    let fresh = rung-fresh a.head (held_of a) c.args.layout.size rung.base power rung.gives in
+    placed-added a (new-chunk-gives a.head.minimum _ c.args.layout.size c.args.layout.align (held_of a) new-chunk room)
     (omega (arith, fresh.place-free, length-chunks a.starts a.sizes a.pointers a.head.count))

@@ -40,8 +40,8 @@ returns-then-has_block c =
     let at-hand : (let chunks = chunks_of c.args.a.now.starts.now c.args.a.now.sizes.now c.args.a.now.pointers.now in chunks c.loop-left.left ≡ c.chunk_at-c.result ∷ chunks (c.loop-left.left - 1)) = let chunks = chunks_of c.args.a.now.starts.now c.args.a.now.sizes.now c.args.a.now.pointers.now in
     chunks-newest c.args.a.now.starts.now c.args.a.now.sizes.now c.args.a.now.pointers.now c.loop-left.left c.loop-left-test.true
     ∙ ap (λ (d : Chunk). d ∷ chunks (c.loop-left.left - 1)) (sym c.chunk_at-c.ensures) in
-    let asked : (let cs = held_of (lent_of c.args.a.now) in acceptable cs c.args.offset c.args.size c.args.align ≡ any (has_block c.args.offset c.args.size) cs) = rw (left-true c.is_multiple_of_power.ensures c.if-not-is_multiple_of_power.false) in
-    let test = has_block c.args.offset c.args.size in
+    let asked : (let cs = held_of (lent_of c.args.a.now) in acceptable cs c.args.block.offset c.args.block.layout.size c.args.block.layout.align ≡ any (has_block c.args.block.offset c.args.block.layout.size) cs) = rw (left-true c.is_multiple_of_power.ensures c.if-not-is_multiple_of_power.false) in
+    let test = has_block c.args.block.offset c.args.block.layout.size in
     sym
     (asked
     ∙ c.loop-left.invariant.1
@@ -53,7 +53,7 @@ loop-left-preserved c =
     let at-hand : (let chunks = chunks_of c.args.a.now.starts.now c.args.a.now.sizes.now c.args.a.now.pointers.now in chunks c.loop-left.left ≡ c.chunk_at-c.result ∷ chunks (c.loop-left.left - 1)) = let chunks = chunks_of c.args.a.now.starts.now c.args.a.now.sizes.now c.args.a.now.pointers.now in
     chunks-newest c.args.a.now.starts.now c.args.a.now.sizes.now c.args.a.now.pointers.now c.loop-left.left c.loop-left-test.true
     ∙ ap (λ (d : Chunk). d ∷ chunks (c.loop-left.left - 1)) (sym c.chunk_at-c.ensures) in
-    let test = has_block c.args.offset c.args.size in (
+    let test = has_block c.args.block.offset c.args.block.layout.size in (
       omega arith,
       c.loop-left.invariant.1
           ∙ ap (any test) at-hand
@@ -63,10 +63,10 @@ loop-left-preserved c =
 pub returns : goal.returns
 unfolding chunks_of acceptable
 returns c =
-    let asked : (let cs = held_of (lent_of c.args.a.now) in acceptable cs c.args.offset c.args.size c.args.align ≡ any (has_block c.args.offset c.args.size) cs) = rw (left-true c.is_multiple_of_power.ensures c.if-not-is_multiple_of_power.false) in
+    let asked : (let cs = held_of (lent_of c.args.a.now) in acceptable cs c.args.block.offset c.args.block.layout.size c.args.block.layout.align ≡ any (has_block c.args.block.offset c.args.block.layout.size) cs) = rw (left-true c.is_multiple_of_power.ensures c.if-not-is_multiple_of_power.false) in
     let none_left : c.loop-left.left ≡ 0 = omega arith in
     sym
     (asked
     ∙ c.loop-left.invariant.1
-    ∙ ap (λ (k : ℕ). any (has_block c.args.offset c.args.size) (chunks_of c.args.a.now.starts.now c.args.a.now.sizes.now c.args.a.now.pointers.now k)) none_left
-    ∙ any_none (has_block c.args.offset c.args.size))
+    ∙ ap (λ (k : ℕ). any (has_block c.args.block.offset c.args.block.layout.size) (chunks_of c.args.a.now.starts.now c.args.a.now.sizes.now c.args.a.now.pointers.now k)) none_left
+    ∙ any_none (has_block c.args.block.offset c.args.block.layout.size))

@@ -28,28 +28,28 @@ up_to_power-aligned-requires c =
 
 pub up_to_power-needed-requires : goal.up_to_power-needed-requires
 up_to_power-needed-requires c =
-    let near = up-near c.args.size c.args.align (power-positive (one-bit-power c.args.align c.requires.2)) in
+    let near = up-near c.args.layout.size c.args.layout.align (power-positive (one-bit-power c.args.layout.align c.requires.2)) in
     (c.requires.0, omega (arith, c.up_to_power-aligned.ensures, near, c.requires.1, c.requires.3, c.requires.4))
 
 pub returns-then-top-needed : goal.returns-then-top-needed
 returns-then-top-needed c =
-    let needed-bytes : (c.up_to_power-needed.result ≡ needed c.args.minimum c.args.size c.args.align) = c.up_to_power-needed.ensures
+    let needed-bytes : (c.up_to_power-needed.result ≡ needed c.args.minimum c.args.layout.size c.args.layout.align) = c.up_to_power-needed.ensures
     ∙ ap (λ (n : ℕ). round_up n c.args.minimum) c.up_to_power-aligned.ensures
-    ∙ up-twice c.args.size (one-bit-power c.args.align c.requires.2) (one-bit-power c.args.minimum c.requires.0) in
-    sym (chunk-lacks c.args.minimum c.args.c c.args.size c.args.align (omega (arith, c.down_to_power-top.ensures, needed-bytes)))
+    ∙ up-twice c.args.layout.size (one-bit-power c.args.layout.align c.requires.2) (one-bit-power c.args.minimum c.requires.0) in
+    sym (chunk-lacks c.args.minimum c.args.c c.args.layout.size c.args.layout.align (omega (arith, c.down_to_power-top.ensures, needed-bytes)))
 
 pub returns-then-p-c : goal.returns-then-p-c
 returns-then-p-c c =
-    let needed-bytes : (c.up_to_power-needed.result ≡ needed c.args.minimum c.args.size c.args.align) = c.up_to_power-needed.ensures
+    let needed-bytes : (c.up_to_power-needed.result ≡ needed c.args.minimum c.args.layout.size c.args.layout.align) = c.up_to_power-needed.ensures
     ∙ ap (λ (n : ℕ). round_up n c.args.minimum) c.up_to_power-aligned.ensures
-    ∙ up-twice c.args.size (one-bit-power c.args.align c.requires.2) (one-bit-power c.args.minimum c.requires.0) in
-    sym (chunk-lacks c.args.minimum c.args.c c.args.size c.args.align (omega (arith, c.down_to_power-top.ensures, needed-bytes)))
+    ∙ up-twice c.args.layout.size (one-bit-power c.args.layout.align c.requires.2) (one-bit-power c.args.minimum c.requires.0) in
+    sym (chunk-lacks c.args.minimum c.args.c c.args.layout.size c.args.layout.align (omega (arith, c.down_to_power-top.ensures, needed-bytes)))
 
 pub returns : goal.returns
 returns c =
-    let needed-bytes : (c.up_to_power-needed.result ≡ needed c.args.minimum c.args.size c.args.align) = c.up_to_power-needed.ensures
+    let needed-bytes : (c.up_to_power-needed.result ≡ needed c.args.minimum c.args.layout.size c.args.layout.align) = c.up_to_power-needed.ensures
     ∙ ap (λ (n : ℕ). round_up n c.args.minimum) c.up_to_power-aligned.ensures
-    ∙ up-twice c.args.size (one-bit-power c.args.align c.requires.2) (one-bit-power c.args.minimum c.requires.0) in
+    ∙ up-twice c.args.layout.size (one-bit-power c.args.layout.align c.requires.2) (one-bit-power c.args.minimum c.requires.0) in
     let top = c.down_to_power-top.ensures in
     ap Some (omega (arith, top, needed-bytes))
-    ∙ sym (chunk-gives c.args.minimum c.args.c c.args.size c.args.align (omega (arith, top, needed-bytes)))
+    ∙ sym (chunk-gives c.args.minimum c.args.c c.args.layout.size c.args.layout.align (omega (arith, top, needed-bytes)))

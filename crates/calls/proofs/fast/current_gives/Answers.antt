@@ -10,7 +10,7 @@ unfolding current_pointer
 returns-in_err-current c =
     c.from_residual.ensures
     ∙ sym
-    (ap (λ cs. current_pointer c.args.a.now.lent.head.minimum cs c.args.size c.args.align)
+    (ap (λ cs. current_pointer c.args.a.now.lent.head.minimum cs c.args.layout.size c.args.layout.align)
     (none-current _ (sym c.current.ensures ∙ c.in_err-current.was)))
 
 pub chunk_gives-requires : goal.chunk_gives-requires
@@ -21,5 +21,5 @@ unfolding current_pointer
 returns c =
     c.chunk_gives.ensures
     ∙ sym
-    (ap (λ cs. current_pointer c.args.a.now.lent.head.minimum cs c.args.size c.args.align)
+    (ap (λ cs. current_pointer c.args.a.now.lent.head.minimum cs c.args.layout.size c.args.layout.align)
     (current-is _ (sym c.current.ensures ∙ c.in_ok-current.was)).newest)
