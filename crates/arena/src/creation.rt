@@ -7,7 +7,7 @@ ghost use Rattle.arena.specs.Creation.{refused_creation, created_of};
 
 use crate::ladder::take_rung;
 use crate::layout::Layout;
-use crate::sound::is_allowed_minimum;
+use crate::sound::{Sound, is_allowed_minimum};
 use crate::{Arena, Chunk, Head, Outcome, Refusal};
 
 // The record of this head with no chunk.
@@ -89,7 +89,10 @@ impl Arena {
             size: capacity,
             align: minimum,
         };
-        let got = take_rung(&fresh.lent(), 0, layout, Arena::DEFAULT_SIZE);
+        let sound = Sound {
+            lent: fresh.lent(),
+        };
+        let got = take_rung(&sound, 0, layout, Arena::DEFAULT_SIZE);
         let Some(c) = got else {
             return refused_creation(Refusal::Room);
         };

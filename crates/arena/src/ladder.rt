@@ -4,30 +4,28 @@ ghost use Rattle.arena.specs.Numbers.{most};
 ghost use Rattle.arena.specs.Record.{held_of};
 ghost use Rattle.arena.specs.Sound.{allowed_align};
 ghost use Rattle.arena.specs.Ladder.{held_bytes, first_base, tried, under_limit, rung_chunk, ladder};
-ghost use Rattle.arena.specs.Inner.{lent_of, Ready};
+ghost use Rattle.arena.specs.Inner.{lent_of};
 
 use crate::layout::Layout;
-use crate::lent::Lent;
 use crate::placing::lowest_place;
 use crate::sizing::usable_size;
+use crate::sound::Sound;
 use crate::{Arena, Chunk, Head};
 
-pub fn held_bytes(a: &Lent) -> usize
-    requires { Ready a.now.head (held_of (lent_of a.now)) }
-    ensures { result ≡ held_bytes (held_of (lent_of a.now)) }
+pub fn held_bytes(a: &Sound) -> usize
+    ensures { result ≡ held_bytes (held_of (lent_of a.now.lent)) }
 {
-    let count = a.head.count;
+    let count = a.lent.head.count;
     let mut held = 0;
     // By places and not by an iterator: a chunk is put together from three columns, and the invariant speaks of the places passed.
     for i in 0..count {
-        held += a.chunk_at(i).size;
+        held += a.lent.chunk_at(i).size;
     }
     held
 }
 
-fn first_base(a: &Lent, size: usize) -> usize
-    requires { Ready a.now.head (held_of (lent_of a.now)) }
-    ensures { result ≡ first_base (held_of (lent_of a.now)) size }
+fn first_base(a: &Sound, size: usize) -> usize
+    ensures { result ≡ first_base (held_of (lent_of a.now.lent)) size }
 {
     let floor = size.max(Arena::DEFAULT_SIZE);
     let Some(c) = a.current() else {
@@ -70,13 +68,12 @@ fn is_under_limit(h: Head, held: usize, n: usize) -> bool
 }
 
 // The chunk that a rung gives. The held bytes are handed in, since they are the same at every rung.
-pub fn take_rung(a: &Lent, held: usize, layout: Layout, base: usize) -> Option<Chunk>
-    requires ready { Ready a.now.head (held_of (lent_of a.now)) }
+pub fn take_rung(a: &Sound, held: usize, layout: Layout, base: usize) -> Option<Chunk>
     requires size_le_most { (layout.size ≤ most) × (allowed_align layout.align ≡ true) × (base ≤ 2 ^ 31) }
-    requires held_value { held ≡ held_bytes (held_of (lent_of a.now)) }
-    ensures { result ≡ rung_chunk a.now.head (held_of (lent_of a.now)) layout.size layout.align base }
+    requires held_value { held ≡ held_bytes (held_of (lent_of a.now.lent)) }
+    ensures { result ≡ rung_chunk a.now.lent.head (held_of (lent_of a.now.lent)) layout.size layout.align base }
 {
-    let h = a.head;
+    let h = a.lent.head;
     let n = usable_size(base, layout);
     if !is_under_limit(h, held, n) {
         return None;
@@ -92,12 +89,11 @@ pub fn take_rung(a: &Lent, held: usize, layout: Layout, base: usize) -> Option<C
     })
 }
 
-pub fn climb(a: &Lent, layout: Layout) -> Option<Chunk>
-    requires ready { Ready a.now.head (held_of (lent_of a.now)) }
-    requires size_le_most { (layout.size ≤ most) × (allowed_align layout.align ≡ true) }
-    ensures { result ≡ ladder a.now.head (held_of (lent_of a.now)) layout.size layout.align }
+pub fn climb(a: &Sound, layout: Layout) -> Option<Chunk>
+    requires { (layout.size ≤ most) × (allowed_align layout.align ≡ true) }
+    ensures { result ≡ ladder a.now.lent.head (held_of (lent_of a.now.lent)) layout.size layout.align }
 {
-    let h = a.head;
+    let h = a.lent.head;
     let held = held_bytes(a);
     let mut base = first_base(a, layout.size);
     while is_tried(h, held, layout.size, base) {

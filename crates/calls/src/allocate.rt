@@ -35,7 +35,7 @@ fn placed_slow(a: &Sound, layout: Layout) -> Answered<usize>
     requires { (layout.size ≤ most) × (allowed_align layout.align ≡ true) }
     ensures { AnsweredBy (λ r. given None r (new_chunk_gives r.head.minimum (held_of r) (ladder r.head (held_of r) layout.size layout.align) layout.size layout.align)) (lent_of a.now.lent) result }
 {
-    let Some(c) = climb(&a.lent, layout) else {
+    let Some(c) = climb(a, layout) else {
         return Answered::refused(Refusal::Room);
     };
     let Some(pointer) = chunk_gives(a.lent.head.minimum, c, layout) else {

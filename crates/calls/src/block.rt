@@ -3,14 +3,13 @@
 ghost use Rattle.std.specs.Prelude.{◌≡◌, true, ◌+◌, ◌<◌, ◌≤◌, ◌^◌};
 ghost use Rattle.rounding.specs.Round.{one_bit};
 ghost use Rattle.arena.specs.Record.{held_of};
-ghost use Rattle.arena.specs.Inner.{lent_of, Ready};
+ghost use Rattle.arena.specs.Inner.{lent_of};
 ghost use Rattle.calls.specs.Tests.{has_block, acceptable};
 ghost use Rattle.calls.specs.Allocate.{at_pointer};
 ghost use Rattle.calls.specs.Inner.{LastBlock};
 
 use arena::Chunk;
 use arena::layout::Block;
-use arena::lent::Lent;
 use arena::sound::{Sound, is_allowed_align};
 
 fn has_block(c: Chunk, offset: usize, size: usize) -> bool
@@ -31,19 +30,18 @@ fn has_block(c: Chunk, offset: usize, size: usize) -> bool
 }
 
 // The newest chunk is asked first: most calls name a block that was given out lately.
-pub fn is_acceptable(a: &Lent, block: Block) -> bool
-    requires ready { Ready a.now.head (held_of (lent_of a.now)) }
-    requires align_value { one_bit block.layout.align ≡ true }
-    ensures { result ≡ acceptable (held_of (lent_of a.now)) block.offset block.layout.size block.layout.align }
+pub fn is_acceptable(a: &Sound, block: Block) -> bool
+    requires { one_bit block.layout.align ≡ true }
+    ensures { result ≡ acceptable (held_of (lent_of a.now.lent)) block.offset block.layout.size block.layout.align }
 {
     if !rounding::is_multiple_of_power(block.offset, block.layout.align) {
         return false;
     }
-    let mut left = a.head.count;
+    let mut left = a.lent.head.count;
     // Counted down, so that what is left is the list of the first places, as the definition goes by.
     while 0 < left {
         left -= 1;
-        let c = a.chunk_at(left);
+        let c = a.lent.chunk_at(left);
         if has_block(c, block.offset, block.layout.size) {
             return true;
         }

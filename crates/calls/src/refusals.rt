@@ -45,7 +45,7 @@ pub fn block_answer(a: &Sound, block: Block) -> Result<(), Refusal>
     if !is_allowed_align(block.layout.align) {
         return Err(Refusal::Align);
     }
-    if !is_acceptable(&a.lent, block) {
+    if !is_acceptable(a, block) {
         return Err(Refusal::Block);
     }
     Ok(())
@@ -67,7 +67,7 @@ pub fn change_answer(a: &Sound, block: Block, new: Layout, backwards: bool) -> R
     if !is_allowed_align(new.align) {
         return Err(Refusal::Align);
     }
-    if !is_acceptable(&a.lent, block) {
+    if !is_acceptable(a, block) {
         return Err(Refusal::Block);
     }
     if backwards {

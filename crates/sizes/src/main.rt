@@ -64,8 +64,8 @@ fn ask_rung(a: Arena, base: usize, layout: Layout) -> Option<Said> {
     if !is_request(layout) {
         return None;
     }
-    let held = held_bytes(&sound.lent);
-    let got = take_rung(&sound.lent, held, layout, base);
+    let held = held_bytes(&sound);
+    let got = take_rung(&sound, held, layout, base);
     Some(Said::Rung(got.ok_or(usable_size(base, layout))))
 }
 
@@ -74,7 +74,7 @@ fn ask_ladder(a: Arena, layout: Layout) -> Option<Said> {
     if !is_request(layout) {
         return None;
     }
-    Some(Said::Ladder(climb(&sound.lent, layout)))
+    Some(Said::Ladder(climb(&sound, layout)))
 }
 
 fn ask_place(a: Arena, n: usize, multiple: usize) -> Option<Said> {
@@ -88,7 +88,7 @@ fn ask_place(a: Arena, n: usize, multiple: usize) -> Option<Said> {
     if Arena::LARGEST_ALIGN < multiple {
         return None;
     }
-    Some(Said::Place(lowest_place(&sound.lent, multiple, n)))
+    Some(Said::Place(lowest_place(&sound, multiple, n)))
 }
 
 // No Display: where no rule was asked there is no value.

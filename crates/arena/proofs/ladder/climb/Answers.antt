@@ -7,36 +7,30 @@ use mathlib.Core.Path.{◌≡◌, sym, ◌∙◌, ap}
 use Rattle.arena.specs.Ladder.{held_bytes, tried, first_base}
 use Rattle.arena.specs.Inner.{lent_of}
 use Rattle.arena.proofs.Rungs.{climb-starts, climb-bound, climb-served, climb-out, climb-ends, climb-on, first-base-bound}
+use Rattle.arena.proofs.Soundness.{lent-ready}
 use Rattle.arena.proofs.ladder.climb.Goals as goal
 use Rattle.arena.specs.Record.{held_of}
 
-pub held_bytes-held-requires : goal.held_bytes-held-requires
-held_bytes-held-requires c = c.requires.ready
-
-pub first_base-base-requires : goal.first_base-base-requires
-first_base-base-requires c = c.requires.ready
-
 pub loop-layout-init : goal.loop-layout-init
 loop-layout-init c =
-    rw c.first_base-base.ensures (climb-starts c.args.a.now.head (held_of (lent_of c.args.a.now)) c.args.layout.size c.args.layout.align)
+    rw c.first_base-base.ensures (climb-starts c.args.a.now.lent.head (held_of (lent_of c.args.a.now.lent)) c.args.layout.size c.args.layout.align)
 
 pub take_rung-requires : goal.take_rung-requires
 take_rung-requires c =
-    let first-bound : (first_base (held_of (lent_of c.args.a.now)) c.args.layout.size ≤ 2 ^ 31) = first-base-bound _ c.requires.ready.inside c.requires.ready.region_bound c.requires.size_le_most.0 in
+    let first-bound : (first_base (held_of (lent_of c.args.a.now.lent)) c.args.layout.size ≤ 2 ^ 31) = first-base-bound _ (lent-ready c.args.a.now.lent c.args.a.now.sound).inside (lent-ready c.args.a.now.lent c.args.a.now.sound).region_bound c.requires.0 in
     record {
-      ready = c.requires.ready;
-      size_le_most = (c.requires.size_le_most.0, c.requires.size_le_most.1, le_trans (climb-bound _ _ _ _ c.loop-layout.invariant) first-bound);
+      size_le_most = (c.requires.0, c.requires.1, le_trans (climb-bound _ _ _ _ c.loop-layout.invariant) first-bound);
       held_value = c.held_bytes-held.ensures;
     }
 
 pub returns-in-Some : goal.returns-in-Some
 returns-in-Some c =
-    let tested : (c.is_tried.result ≡ tried c.args.a.now.head (held_bytes (held_of (lent_of c.args.a.now))) c.args.layout.size c.loop-layout.base) = c.is_tried.ensures ∙ ap (λ (held : ℕ). tried c.args.a.now.head held c.args.layout.size c.loop-layout.base) c.held_bytes-held.ensures in
+    let tested : (c.is_tried.result ≡ tried c.args.a.now.lent.head (held_bytes (held_of (lent_of c.args.a.now.lent))) c.args.layout.size c.loop-layout.base) = c.is_tried.ensures ∙ ap (λ (held : ℕ). tried c.args.a.now.lent.head held c.args.layout.size c.loop-layout.base) c.held_bytes-held.ensures in
     sym (climb-served _ _ _ _ c.loop-layout.invariant (sym tested ∙ c.loop-layout-test.true) (sym c.take_rung.ensures ∙ c.in-Some.is))
 
 pub returns-then-base-eq0 : goal.returns-then-base-eq0
 returns-then-base-eq0 c =
-    let tested : (c.is_tried.result ≡ tried c.args.a.now.head (held_bytes (held_of (lent_of c.args.a.now))) c.args.layout.size c.loop-layout.base) = c.is_tried.ensures ∙ ap (λ (held : ℕ). tried c.args.a.now.head held c.args.layout.size c.loop-layout.base) c.held_bytes-held.ensures in
+    let tested : (c.is_tried.result ≡ tried c.args.a.now.lent.head (held_bytes (held_of (lent_of c.args.a.now.lent))) c.args.layout.size c.loop-layout.base) = c.is_tried.ensures ∙ ap (λ (held : ℕ). tried c.args.a.now.lent.head held c.args.layout.size c.loop-layout.base) c.held_bytes-held.ensures in
     sym (climb-ends _ _ _ _ c.loop-layout.invariant c.if-base-eq0.true (sym tested ∙ c.loop-layout-test.true) (sym c.take_rung.ensures ∙ c.in_default.is))
 
 pub loop-layout-smaller : goal.loop-layout-smaller
@@ -44,12 +38,12 @@ loop-layout-smaller c = omega (arith, c.if-base-eq0.false)
 
 pub loop-layout-preserved : goal.loop-layout-preserved
 loop-layout-preserved c =
-    let tested : (c.is_tried.result ≡ tried c.args.a.now.head (held_bytes (held_of (lent_of c.args.a.now))) c.args.layout.size c.loop-layout.base) = c.is_tried.ensures ∙ ap (λ (held : ℕ). tried c.args.a.now.head held c.args.layout.size c.loop-layout.base) c.held_bytes-held.ensures in
-    let first-bound : (first_base (held_of (lent_of c.args.a.now)) c.args.layout.size ≤ 2 ^ 31) = first-base-bound _ c.requires.ready.inside c.requires.ready.region_bound c.requires.size_le_most.0 in
+    let tested : (c.is_tried.result ≡ tried c.args.a.now.lent.head (held_bytes (held_of (lent_of c.args.a.now.lent))) c.args.layout.size c.loop-layout.base) = c.is_tried.ensures ∙ ap (λ (held : ℕ). tried c.args.a.now.lent.head held c.args.layout.size c.loop-layout.base) c.held_bytes-held.ensures in
+    let first-bound : (first_base (held_of (lent_of c.args.a.now.lent)) c.args.layout.size ≤ 2 ^ 31) = first-base-bound _ (lent-ready c.args.a.now.lent c.args.a.now.sound).inside (lent-ready c.args.a.now.lent c.args.a.now.sound).region_bound c.requires.0 in
     climb-on _ _ _ _ c.loop-layout.invariant (omega (arith, first-bound)) c.if-base-eq0.false (sym tested ∙ c.loop-layout-test.true)
     (sym c.take_rung.ensures ∙ c.in_default.is)
 
 pub returns : goal.returns
 returns c =
-    let tested : (c.is_tried.result ≡ tried c.args.a.now.head (held_bytes (held_of (lent_of c.args.a.now))) c.args.layout.size c.loop-layout.base) = c.is_tried.ensures ∙ ap (λ (held : ℕ). tried c.args.a.now.head held c.args.layout.size c.loop-layout.base) c.held_bytes-held.ensures in
+    let tested : (c.is_tried.result ≡ tried c.args.a.now.lent.head (held_bytes (held_of (lent_of c.args.a.now.lent))) c.args.layout.size c.loop-layout.base) = c.is_tried.ensures ∙ ap (λ (held : ℕ). tried c.args.a.now.lent.head held c.args.layout.size c.loop-layout.base) c.held_bytes-held.ensures in
     sym (climb-out _ _ _ _ c.loop-layout.invariant (sym tested ∙ c.loop-layout-test.false))

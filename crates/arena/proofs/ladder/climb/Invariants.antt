@@ -5,7 +5,7 @@ use Rattle.arena.proofs.Rungs.{Climbed}
 use Rattle.arena.proofs.ladder.climb.Given as goal
 
 abbrev pub invariant-loop-layout : goal.invariant-loop-layout
-invariant-loop-layout l = Climbed l.a.head (chunks_of l.a.starts.now l.a.sizes.now l.a.pointers.now l.a.head.count) l.layout.size l.layout.align l.base
+invariant-loop-layout l = Climbed l.a.lent.head (chunks_of l.a.lent.starts.now l.a.lent.sizes.now l.a.lent.pointers.now l.a.lent.head.count) l.layout.size l.layout.align l.base
 
 abbrev pub decreases-loop-layout : goal.decreases-loop-layout
 decreases-loop-layout l = l.base

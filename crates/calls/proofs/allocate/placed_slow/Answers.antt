@@ -7,7 +7,7 @@ use Rattle.arena.specs.Record.{held_of}
 use Rattle.arena.specs.Ladder.{ladder}
 use Rattle.arena.proofs.Rungs.{ladder-served}
 use Rattle.arena.proofs.Served.{rung-fresh}
-use Rattle.arena.proofs.Soundness.{align-open, sound-open, sound-ready}
+use Rattle.arena.proofs.Soundness.{align-open}
 use Rattle.arena.proofs.View.{length-chunks}
 use Rattle.calls.specs.Allocate.{new_chunk_gives}
 use Rattle.calls.proofs.Giving.{sound-tested, tested-bounds, new-chunk-gives}
@@ -16,10 +16,7 @@ use Rattle.calls.proofs.allocate.placed_slow.Goals as goal
 use Rattle.arena.specs.Inner.{lent_of}
 
 pub climb-requires : goal.climb-requires
-climb-requires c = record {
-  ready = sound-ready (sound-open _ c.args.a.now.sound);
-  size_le_most = c.requires;
-}
+climb-requires c = c.requires
 
 pub returns-in_default : goal.returns-in_default
 unfolding new_chunk_gives

@@ -17,7 +17,7 @@ use Rattle.arena.specs.Inner.{lent_of}
 use Rattle.arena.specs.Refusals.{Test, test, refused_by}
 use Rattle.arena.specs.Sound.{allowed_align}
 use Rattle.arena.proofs.Refusing.{refused-now, refused-later, none-applies}
-use Rattle.arena.proofs.Soundness.{align-open, sound-open, sound-ready}
+use Rattle.arena.proofs.Soundness.{align-open}
 use Rattle.calls.specs.Tests.{acceptable, sizes_test, aligns_test, block_test}
 use Rattle.calls.specs.Write.{lend_answer}
 use Rattle.calls.specs.Inner.{change_tests}
@@ -93,10 +93,7 @@ returns-then-not-is_allowed_align-2 c =
 pub is_acceptable-requires : goal.is_acceptable-requires
 is_acceptable-requires c =
     let old-allowed : allowed_align c.args.block.layout.align ≡ true = left-true c.is_allowed_align.ensures c.if-not-is_allowed_align.false in
-    record {
-      ready = sound-ready (sound-open _ c.args.a.now.sound);
-      align_value = power-one-bit (align-open _ old-allowed).power;
-    }
+    power-one-bit (align-open _ old-allowed).power
 
 pub returns-then-not-is_acceptable : goal.returns-then-not-is_acceptable
 unfolding lend_answer
