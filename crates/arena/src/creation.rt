@@ -6,7 +6,7 @@ ghost use Rattle.arena.specs.Sound.{sound_of};
 ghost use Rattle.arena.specs.Creation.{refused_creation, created_of};
 
 use crate::ladder::take_rung;
-use crate::layout::Layout;
+use crate::layout::{Allowed, Layout};
 use crate::sound::{Sound, is_allowed_minimum};
 use crate::{Arena, Chunk, Head, Outcome, Refusal};
 
@@ -89,10 +89,11 @@ impl Arena {
             size: capacity,
             align: minimum,
         };
+        let request = Allowed { layout };
         let sound = Sound {
             lent: fresh.lent(),
         };
-        let got = take_rung(&sound, 0, layout, Arena::DEFAULT_SIZE);
+        let got = take_rung(&sound, 0, request, Arena::DEFAULT_SIZE);
         let Some(c) = got else {
             return refused_creation(Refusal::Room);
         };

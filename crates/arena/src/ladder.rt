@@ -1,12 +1,10 @@
 // The ladder: from a first base down by halves, the first rung that is served gives the new chunk (`alloc_layout_slow` in the Rust).
 ghost use Rattle.std.specs.Prelude.{◌≡◌, true, ◌≤◌, ◌^◌};
-ghost use Rattle.arena.specs.Numbers.{most};
 ghost use Rattle.arena.specs.Record.{held_of};
-ghost use Rattle.arena.specs.Sound.{allowed_align};
 ghost use Rattle.arena.specs.Ladder.{held_bytes, first_base, tried, under_limit, rung_chunk, ladder};
 ghost use Rattle.arena.specs.Inner.{lent_of};
 
-use crate::layout::Layout;
+use crate::layout::Allowed;
 use crate::placing::lowest_place;
 use crate::sizing::usable_size;
 use crate::sound::Sound;
@@ -68,20 +66,20 @@ fn is_under_limit(h: Head, held: usize, n: usize) -> bool
 }
 
 // The chunk that a rung gives. The held bytes are handed in, since they are the same at every rung.
-pub fn take_rung(a: &Sound, held: usize, layout: Layout, base: usize) -> Option<Chunk>
-    requires size_le_most { (layout.size ≤ most) × (allowed_align layout.align ≡ true) × (base ≤ 2 ^ 31) }
+pub fn take_rung(a: &Sound, held: usize, request: Allowed, base: usize) -> Option<Chunk>
+    requires base_bound { base ≤ 2 ^ 31 }
     requires held_value { held ≡ held_bytes (held_of (lent_of a.now.lent)) }
-    ensures { result ≡ rung_chunk a.now.lent.head (held_of (lent_of a.now.lent)) layout.size layout.align base }
+    ensures { result ≡ rung_chunk a.now.lent.head (held_of (lent_of a.now.lent)) request.layout.size request.layout.align base }
 {
     let h = a.lent.head;
-    let n = usable_size(base, layout);
+    let n = usable_size(base, request);
     if !is_under_limit(h, held, n) {
         return None;
     }
     if Arena::PLACES <= h.count {
         return None;
     }
-    let start = lowest_place(a, Arena::STEP.max(layout.align), n)?;
+    let start = lowest_place(a, Arena::STEP.max(request.layout.align), n)?;
     Some(Chunk {
         start,
         size: n,
@@ -89,15 +87,14 @@ pub fn take_rung(a: &Sound, held: usize, layout: Layout, base: usize) -> Option<
     })
 }
 
-pub fn climb(a: &Sound, layout: Layout) -> Option<Chunk>
-    requires { (layout.size ≤ most) × (allowed_align layout.align ≡ true) }
-    ensures { result ≡ ladder a.now.lent.head (held_of (lent_of a.now.lent)) layout.size layout.align }
+pub fn climb(a: &Sound, request: Allowed) -> Option<Chunk>
+    ensures { result ≡ ladder a.now.lent.head (held_of (lent_of a.now.lent)) request.layout.size request.layout.align }
 {
     let h = a.lent.head;
     let held = held_bytes(a);
-    let mut base = first_base(a, layout.size);
-    while is_tried(h, held, layout.size, base) {
-        if let Some(c) = take_rung(a, held, layout, base) {
+    let mut base = first_base(a, request.layout.size);
+    while is_tried(h, held, request.layout.size, base) {
+        if let Some(c) = take_rung(a, held, request, base) {
             return Some(c);
         }
         if base == 0 {

@@ -56,16 +56,20 @@ invariant_of-sound c =
     record { minimum-power = minimum.power; minimum-bound = minimum.bound; region_bound = region_bound; limit-formed = refl } in
     record { sound = ap sound_of c.lent.ensures ∙ emptied-sound fresh c.emptied-fresh.ensures; }
 
+pub invariant_of-request : goal.invariant_of-request
+invariant_of-request c =
+    let minimum = minimum-open _ (left-true c.is_allowed_minimum.ensures c.if-not-is_allowed_minimum.false) in
+    record {
+      size = c.if-capacity-gt-MOST.false;
+      align = align-shut (record { power = minimum.power; bound = omega (arith, minimum.bound) });
+    }
+
 pub take_rung-got-requires : goal.take_rung-got-requires
 unfolding holding chunks_of held_bytes
 take_rung-got-requires c =
-    let region_bound : c.args.region ≤ most = c.if-region-gt-MOST.false in
-    let capacity-bound : c.args.capacity ≤ most = c.if-capacity-gt-MOST.false in
-    let minimum-allowed : allowed_minimum c.args.minimum ≡ true = left-true c.is_allowed_minimum.ensures c.if-not-is_allowed_minimum.false in
-    let fresh = c.lent.ensures ∙ c.emptied-fresh.ensures in
-    let minimum = minimum-open _ minimum-allowed in record {
-      size_le_most = (capacity-bound, align-shut (record { power = minimum.power; bound = omega (arith, minimum.bound) }), omega arith);
-      held_value = sym (ap (λ (a : Arena). held_bytes (held_of a)) fresh);
+    record {
+      base_bound = omega arith;
+      held_value = sym (ap (λ (a : Arena). held_bytes (held_of a)) (c.lent.ensures ∙ c.emptied-fresh.ensures));
     }
 
 pub returns-in_default : goal.returns-in_default

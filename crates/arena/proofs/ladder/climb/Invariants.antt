@@ -4,8 +4,8 @@ use Rattle.arena.specs.Record.{chunks_of}
 use Rattle.arena.proofs.Rungs.{Climbed}
 use Rattle.arena.proofs.ladder.climb.Given as goal
 
-abbrev pub invariant-loop-layout : goal.invariant-loop-layout
-invariant-loop-layout l = Climbed l.a.lent.head (chunks_of l.a.lent.starts.now l.a.lent.sizes.now l.a.lent.pointers.now l.a.lent.head.count) l.layout.size l.layout.align l.base
+abbrev pub invariant-loop-request : goal.invariant-loop-request
+invariant-loop-request l = Climbed l.a.lent.head (chunks_of l.a.lent.starts.now l.a.lent.sizes.now l.a.lent.pointers.now l.a.lent.head.count) l.request.layout.size l.request.layout.align l.base
 
-abbrev pub decreases-loop-layout : goal.decreases-loop-layout
-decreases-loop-layout l = l.base
+abbrev pub decreases-loop-request : goal.decreases-loop-request
+decreases-loop-request l = l.base

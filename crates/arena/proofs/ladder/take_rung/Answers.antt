@@ -26,13 +26,13 @@ returns-then-h-ge-PLACES c =
 
 pub lowest_place-requires : goal.lowest_place-requires
 lowest_place-requires c =
-    let align = align-open c.args.layout.align c.requires.size_le_most.1 in
-    let bound = usable-bound c.args.base c.args.layout.size c.args.layout.align c.requires.size_le_most.2 c.requires.size_le_most.0 align.bound in
+    let align = align-open c.args.request.layout.align c.args.request.align in
+    let bound = usable-bound c.args.base c.args.request.layout.size c.args.request.layout.align c.requires.base_bound c.args.request.size align.bound in
     (omega arith, omega (arith, align.bound), omega (arith, bound))
 
 pub returns-in_err-start : goal.returns-in_err-start
 returns-in_err-start c =
-    let placed : (let cs = held_of (lent_of c.args.a.now.lent) in let n = c.usable_size-n.result in rung_chunk c.args.a.now.lent.head cs c.args.layout.size c.args.layout.align c.args.base ≡ option_map (new_chunk n) (lowest_place c.args.a.now.lent.head.region cs c.max.result n)) = rung-placed _ _ _ _ _ c.requires.held_value
+    let placed : (let cs = held_of (lent_of c.args.a.now.lent) in let n = c.usable_size-n.result in rung_chunk c.args.a.now.lent.head cs c.args.request.layout.size c.args.request.layout.align c.args.base ≡ option_map (new_chunk n) (lowest_place c.args.a.now.lent.head.region cs c.max.result n)) = rung-placed _ _ _ _ _ c.requires.held_value
     c.usable_size-n.ensures
     c.max.ensures
     (sym c.is_under_limit.ensures ∙ c.if-not-is_under_limit.false)
@@ -41,14 +41,14 @@ returns-in_err-start c =
 
 pub overflow_add-result : goal.overflow_add-result
 overflow_add-result c =
-    let align = align-open c.args.layout.align c.requires.size_le_most.1 in
+    let align = align-open c.args.request.layout.align c.args.request.align in
     let found = sym c.lowest_place.ensures ∙ c.in_ok-start.was in
     let fits = (lowest-fits c.args.a.now.lent.head.region _ _ {a = c.max.result} (omega arith) found).1 in
     omega (arith, fits.inside, (lent-ready c.args.a.now.lent c.args.a.now.sound).region_bound)
 
 pub returns : goal.returns
 returns c =
-    let placed : (let cs = held_of (lent_of c.args.a.now.lent) in let n = c.usable_size-n.result in rung_chunk c.args.a.now.lent.head cs c.args.layout.size c.args.layout.align c.args.base ≡ option_map (new_chunk n) (lowest_place c.args.a.now.lent.head.region cs c.max.result n)) = rung-placed _ _ _ _ _ c.requires.held_value
+    let placed : (let cs = held_of (lent_of c.args.a.now.lent) in let n = c.usable_size-n.result in rung_chunk c.args.a.now.lent.head cs c.args.request.layout.size c.args.request.layout.align c.args.base ≡ option_map (new_chunk n) (lowest_place c.args.a.now.lent.head.region cs c.max.result n)) = rung-placed _ _ _ _ _ c.requires.held_value
     c.usable_size-n.ensures
     c.max.ensures
     (sym c.is_under_limit.ensures ∙ c.if-not-is_under_limit.false)
