@@ -1,9 +1,7 @@
 // Allocate: from the current chunk, else from a new one (`try_alloc_layout` in the Rust).
-ghost use Rattle.std.specs.Prelude.{◌≡◌, true, ◌≤◌, length, None, Ok};
+ghost use Rattle.std.specs.Prelude.{◌≡◌, length, None, Ok};
 ghost use Rattle.arena.specs.declared.change.Change.TheVariants.{Moved};
-ghost use Rattle.arena.specs.Numbers.{most};
 ghost use Rattle.arena.specs.Record.{held_of};
-ghost use Rattle.arena.specs.Sound.{allowed_align};
 ghost use Rattle.arena.specs.Ladder.{ladder};
 ghost use Rattle.arena.specs.Inner.{lent_of};
 ghost use Rattle.calls.specs.Allocate.{new_chunk_gives, given, allocate_of};
@@ -14,7 +12,7 @@ use crate::fast::{chunk_gives, current_gives};
 use crate::refusals::lent_sound;
 use arena::change::Change;
 use arena::ladder::climb;
-use arena::layout::Layout;
+use arena::layout::{Allowed, Layout};
 use arena::sound::{Sound, is_allowed_align};
 use arena::{Arena, Chunk, Outcome, Refusal};
 
@@ -31,14 +29,13 @@ impl Answered<usize> {
 }
 
 // The ladder's part: a new chunk becomes current and gives the block.
-fn placed_slow(a: &Sound, layout: Layout) -> Answered<usize>
-    requires { (layout.size ≤ most) × (allowed_align layout.align ≡ true) }
-    ensures { AnsweredBy (λ r. given None r (new_chunk_gives r.head.minimum (held_of r) (ladder r.head (held_of r) layout.size layout.align) layout.size layout.align)) (lent_of a.now.lent) result }
+fn placed_slow(a: &Sound, request: Allowed) -> Answered<usize>
+    ensures { AnsweredBy (λ r. given None r (new_chunk_gives r.head.minimum (held_of r) (ladder r.head (held_of r) request.layout.size request.layout.align) request.layout.size request.layout.align)) (lent_of a.now.lent) result }
 {
-    let Some(c) = climb(a, layout) else {
+    let Some(c) = climb(a, request) else {
         return Answered::refused(Refusal::Room);
     };
-    let Some(pointer) = chunk_gives(a.lent.head.minimum, c, layout) else {
+    let Some(pointer) = chunk_gives(a.lent.head.minimum, c, request) else {
         return Answered::refused(Refusal::Room);
     };
     Answered {
@@ -57,8 +54,9 @@ pub fn allocate_in_full(a: &Sound, layout: Layout) -> Answered<usize>
     if !is_allowed_align(layout.align) {
         return Answered::refused(Refusal::Align);
     }
-    let Some(p) = current_gives(a, layout) else {
-        return placed_slow(a, layout);
+    let request = Allowed { layout };
+    let Some(p) = current_gives(a, request) else {
+        return placed_slow(a, request);
     };
     Answered::moved(p)
 }
@@ -76,7 +74,8 @@ pub fn allocate_fast(a: &Sound, layout: Layout) -> Option<usize>
     if !is_allowed_align(layout.align) {
         return None;
     }
-    current_gives(a, layout)
+    let request = Allowed { layout };
+    current_gives(a, request)
 }
 
 // The same as in full. It is short, so that the compiler puts it into its callers; the record that the long way is lent is a copy made on that way alone, or each

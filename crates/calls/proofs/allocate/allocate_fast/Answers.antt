@@ -18,9 +18,8 @@ returns-then-layout-gt-MOST c = λ p e. absurd (none-some p e)
 pub returns-then-not-is_allowed_align : goal.returns-then-not-is_allowed_align
 returns-then-not-is_allowed_align c = λ p e. absurd (none-some p e)
 
-pub current_gives-requires : goal.current_gives-requires
-current_gives-requires c =
-    (c.if-layout-gt-MOST.false, left-true c.is_allowed_align.ensures c.if-not-is_allowed_align.false)
+pub invariant_of-request : goal.invariant_of-request
+invariant_of-request c = record { size = c.if-layout-gt-MOST.false; align = left-true c.is_allowed_align.ensures c.if-not-is_allowed_align.false }
 
 pub returns : goal.returns
 returns c =

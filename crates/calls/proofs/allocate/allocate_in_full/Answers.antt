@@ -26,13 +26,8 @@ returns-then-not-is_allowed_align c =
     (allocate-align a _ c.args.layout.size c.args.layout.align c.args.a.now.sound refl c.if-layout-gt-MOST.false
     (taken_false c.is_allowed_align.ensures c.if-not-is_allowed_align.true))
 
-pub current_gives-requires : goal.current_gives-requires
-current_gives-requires c =
-    (c.if-layout-gt-MOST.false, left-true c.is_allowed_align.ensures c.if-not-is_allowed_align.false)
-
-pub placed_slow-requires : goal.placed_slow-requires
-placed_slow-requires c =
-    (c.if-layout-gt-MOST.false, left-true c.is_allowed_align.ensures c.if-not-is_allowed_align.false)
+pub invariant_of-request : goal.invariant_of-request
+invariant_of-request c = record { size = c.if-layout-gt-MOST.false; align = left-true c.is_allowed_align.ensures c.if-not-is_allowed_align.false }
 
 pub returns-in_default : goal.returns-in_default
 returns-in_default c =
