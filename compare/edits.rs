@@ -1,6 +1,7 @@
 // Writes one module for each deliberate mistake: the model with one line wrong. edits MODEL MISTAKES FOLDER.. > OUT
 // The folders have the must-fail edits of our calls; each wrong program of theirs must be among the mistakes by its name. Wrong
-// definitions need not be, nor what only the contract of lend or of lent_sound shuts out: the model has no lend of its own, no unsound record and no other region.
+// definitions need not be, nor what only the contract of lend or of lent_sound shuts out: the model has no lend of its own, no unsound record and no
+// other region.
 use std::fs::{read_dir, read_to_string};
 
 fn main() {

@@ -7,7 +7,7 @@ use mathlib.Core.Path.{◌≡◌, refl, ◌∙◌, ap}
 use borrow.Author.Tests.{lt-ltb, le-ltb, ne_eqb}
 use Rattle.rounding.proofs.Tests.{true-not, false-not}
 use Rattle.arena.specs.declared.Chunk.{Chunk}
-use Rattle.std.specs.Prelude.{Ok, Err}
+use Rattle.std.specs.Prelude.{Ok}
 use Rattle.arena.specs.declared.Refusal.{Refusal}
 use Rattle.arena.specs.declared.Refusal.TheVariants.{Region, Size, Align, Room}
 use Rattle.arena.specs.Numbers.{most, default_size}

@@ -1,6 +1,6 @@
 -- The ladder and its rungs. What is tried at a base is tried at any larger one, so the first served of all halvings that are tried is the
 -- first served rung; and 64 halvings reach base 0, so no rung is left out. Assumes nothing.
-use Prim.Native.Nat.{ℕ, zero, suc, ◌+◌, ◌-◌, ◌*◌, ◌/◌, ◌^◌, ◌≤◌, ◌<◌, zero-le, max}
+use Prim.Native.Nat.{ℕ, suc, ◌+◌, ◌-◌, ◌*◌, ◌/◌, ◌^◌, ◌≤◌, ◌<◌, zero-le, max}
 use native.Mathlib.Nat.{le_trans, le_of_eq, div-one, zero-max, suc-mul, add-sub_of_le, div-eq_of_lt, lt_of_lt_of_le}
 use native.Mathlib.Decide.{dec_lt}
 use native.Mathlib.Omega.{arith}

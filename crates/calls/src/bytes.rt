@@ -26,8 +26,8 @@ pub fn copy_from(region: &mut [u8], at: usize, source: &[u8])
     region[at..at + source.len()].copy_from_slice(source);
 }
 
-// Few bytes: the compiler makes one short move of the two copies, and it does not matter what bytes the places share. A shrink to 24 bytes costs 42 instructions
-// so; by the library's loop it costs 64, and at most 54 are wanted.
+// Few bytes: the compiler makes one short move of the two copies, and it does not matter what bytes the places share. A shrink to 24 bytes costs 42
+// instructions so; by the library's loop it costs 64, and at most 54 are wanted.
 fn carry_short(region: &mut [u8], from: usize, to: usize, n: usize)
     requires { (n ≤ 64) × (from + n ≤ length region.old) × (to + n ≤ length region.old) }
     ensures { region.new ≡ carried region.old from to n }

@@ -184,6 +184,7 @@ impl<'a> Replay<'a> {
 }
 
 // To the end of the input, or to four thousand million pieces.
+// All room is fixed memory, since no program allocates.
 fn run_all<R: Read, W: Write>(reader: &mut R, writer: &mut W) -> io::Result<()> {
     let mut weights = [0; BUFFER];
     set_weights(&mut weights);

@@ -103,6 +103,7 @@ fn holding(chunks: usize) -> Arena
         sizes: [0; 32],
         pointers: [0; 32],
     };
+    // By places: three columns are written.
     for i in 0..chunks {
         let size = chunk_size(i + 1 == chunks);
         out.starts[i] = 64 * i;

@@ -28,6 +28,7 @@ fn window(size: usize) -> [u8; 25] {
     w
 }
 
+// The lines have fixed memory, since no program allocates.
 fn show_ended<W: Write>(out: &mut W, state: State, rest: &[u8]) -> io::Result<()> {
     let mut lines = [0; 4096];
     let put = finish(state, rest, &mut lines);

@@ -6,6 +6,7 @@ use std::io;
 use std::io::Write;
 use trial::row::{Plant, current_pointer};
 
+// These write a part of a line each, and a line is of one call: the values alone have no text to be displayed as.
 fn show_answer<W: Write>(out: &mut W, answer: Result<Option<usize>, Refusal>) -> io::Result<()> {
     match answer {
         Ok(Some(offset)) => write!(out, ": at {offset}"),

@@ -10,7 +10,6 @@ use lib.ListN.{set}
 use borrow.Author.Tests.{eq-eqb}
 use Rattle.rounding.proofs.Tests.{true-not}
 use Rattle.arena.specs.declared.Arena.{Arena}
-use Rattle.arena.specs.declared.Outcome.{Outcome}
 use Rattle.arena.specs.declared.Refusal.{Refusal}
 use Rattle.arena.specs.declared.Refusal.TheVariants.{State}
 use Rattle.arena.specs.declared.change.Change.TheVariants.{Moved, Kept}
@@ -21,26 +20,22 @@ use Rattle.arena.specs.Sound.{sound_of, state_test}
 use Rattle.arena.proofs.Changing.{moves}
 use Rattle.arena.proofs.Refusing.{refused-later, unsound-refused, sound-done}
 use Rattle.arena.proofs.Soundness.{sound-open}
-use Rattle.calls.specs.declared.Answered.{Answered}
 use Rattle.calls.specs.declared.TokenAllocation.{TokenAllocation}
 use Rattle.calls.specs.declared.TokenPlaced.{TokenPlaced}
 use Rattle.calls.specs.Bytes.{after_given}
-use Rattle.calls.specs.Inner.{answered_of, AnsweredBy, token_placed_of, TokenPlacedBy, lent_tests, block_tests, first_of}
+use Rattle.calls.specs.Inner.{AnsweredBy, token_placed_of, TokenPlacedBy, lent_tests, block_tests, first_of}
 use Rattle.calls.specs.Tests.{region_test}
 use Rattle.calls.specs.Write.{lend_answer, lend_of}
 use Rattle.calls.proofs.Testing.{Lent, tests-pass, lent-passes}
 use Rattle.host.specs.declared.Said.{Said}
 use Rattle.host.specs.declared.SaidToken.{SaidToken}
 use Rattle.host.specs.Said.{said, said_given, token_said, said_token}
+use Rattle.host.proofs.InPlace.{answered-in-place}
 use Rattle.host.proofs.Saying.{said-given}
 use Rattle.fast.specs.Parts.{head_of, parts_of}
 
 -- of a, the record as it was read, and b, the one that is lent
 module _ {a b : Arena} (read : a ≡ b) where
-  -- an inner form's answer is the call's
-  pub answered-in-parts : {T : Type 0} (call : Arena → Outcome T) (got : Answered T) → AnsweredBy call a got → answered_of b got ≡ call b
-  answered-in-parts call got answered = ap (λ (x : Arena). answered_of x got) (sym read) ∙ answered ∙ ap call read
-
   -- an inner form's answer and token in numbers, once its change is made in place
   pub token-in-parts : (call : Arena → TokenAllocation) (got : TokenPlaced) {r : SaidToken} {after : Arena} →
       TokenPlacedBy call a got → r ≡ token_said got.answer got.token → after ≡ changed_by got.change b →
@@ -73,7 +68,7 @@ pub moved-in-parts : (call : Arena → Allocation) {a : Arena} (head starts size
 unfolding said_given
 moved-in-parts call {a} head starts sizes pointers p read sound held answered =
     let b = parts_of head starts sizes pointers in
-    let whole = answered-in-parts read call _ answered in
+    let whole = answered-in-place read call _ answered in
     let count : a.head.count ≡ (head_of head).count = ap (λ (x : Arena). x.head.count) read in (
       ap (λ (o : Allocation). said_given o.answer) whole,
       ap (λ (k : ℕ). parts_of head starts sizes (set pointers (k - 1) p)) count

@@ -4,7 +4,11 @@ ghost use Rattle.calls.specs.Grow.{grow_of, grow_bytes, grow_zeroed_bytes};
 ghost use Rattle.host.specs.Said.{said_given};
 
 use crate::Said;
+use crate::change::change_in;
 use arena::Arena;
+use calls::bytes::fill;
+use calls::refusals::lent_sound;
+use reshape::grow::grow_placed;
 
 #[unsafe(no_mangle)]
 pub extern "C" fn miravoly_grow(
@@ -20,8 +24,12 @@ pub extern "C" fn miravoly_grow(
     ensures arena_after { arena.new ≡ (grow_of arena.old (length region.old) offset old old_align new new_align).arena }
     ensures region_after { region.new ≡ grow_bytes arena.old region.old offset old old_align new new_align }
 {
-    let got = reshape::grow::grow(*arena, region, offset, old, old_align, new, new_align);
-    *arena = got.arena;
+    let sound = match lent_sound(arena.lent(), region.len()) {
+        Ok(sound) => sound,
+        Err(r) => return r.into(),
+    };
+    let got = grow_placed(&sound, region, offset, old, old_align, new, new_align);
+    change_in(arena, got.change);
     got.answer.into()
 }
 
@@ -39,7 +47,15 @@ pub extern "C" fn miravoly_grow_zeroed(
     ensures arena_after { arena.new ≡ (grow_of arena.old (length region.old) offset old old_align new new_align).arena }
     ensures region_after { region.new ≡ grow_zeroed_bytes arena.old region.old offset old old_align new new_align }
 {
-    let got = reshape::grow::grow_zeroed(*arena, region, offset, old, old_align, new, new_align);
-    *arena = got.arena;
-    got.answer.into()
+    let sound = match lent_sound(arena.lent(), region.len()) {
+        Ok(sound) => sound,
+        Err(r) => return r.into(),
+    };
+    let grown = grow_placed(&sound, region, offset, old, old_align, new, new_align);
+    change_in(arena, grown.change);
+    let said = Said::from(grown.answer);
+    if let Ok(to) = grown.answer {
+        fill(region, to + old, new - old, 0);
+    }
+    said
 }

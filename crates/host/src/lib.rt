@@ -4,6 +4,7 @@
 
 pub mod allocate;
 pub mod answers;
+mod change;
 pub mod create;
 pub mod free;
 pub mod grow;

@@ -4,7 +4,10 @@ ghost use Rattle.calls.specs.Resize.{resize_of, resize_bytes};
 ghost use Rattle.host.specs.Said.{said_given};
 
 use crate::Said;
+use crate::change::change_in;
 use arena::Arena;
+use calls::refusals::lent_sound;
+use reshape::resize::resize_placed;
 
 #[unsafe(no_mangle)]
 pub extern "C" fn miravoly_resize(
@@ -19,7 +22,11 @@ pub extern "C" fn miravoly_resize(
     ensures arena_after { arena.new ≡ (resize_of arena.old (length region.old) offset old align new).arena }
     ensures region_after { region.new ≡ resize_bytes arena.old region.old offset old align new }
 {
-    let got = reshape::resize::resize(*arena, region, offset, old, align, new);
-    *arena = got.arena;
+    let sound = match lent_sound(arena.lent(), region.len()) {
+        Ok(sound) => sound,
+        Err(r) => return r.into(),
+    };
+    let got = resize_placed(&sound, region, offset, old, align, new);
+    change_in(arena, got.change);
     got.answer.into()
 }

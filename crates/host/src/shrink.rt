@@ -4,7 +4,10 @@ ghost use Rattle.calls.specs.Shrink.{shrink_of, shrink_bytes};
 ghost use Rattle.host.specs.Said.{said_given};
 
 use crate::Said;
+use crate::change::change_in;
 use arena::Arena;
+use calls::refusals::lent_sound;
+use reshape::shrink::shrink_placed;
 
 #[unsafe(no_mangle)]
 pub extern "C" fn miravoly_shrink(
@@ -20,7 +23,11 @@ pub extern "C" fn miravoly_shrink(
     ensures arena_after { arena.new ≡ (shrink_of arena.old (length region.old) offset old old_align new new_align).arena }
     ensures region_after { region.new ≡ shrink_bytes arena.old region.old offset old old_align new new_align }
 {
-    let got = reshape::shrink::shrink(*arena, region, offset, old, old_align, new, new_align);
-    *arena = got.arena;
+    let sound = match lent_sound(arena.lent(), region.len()) {
+        Ok(sound) => sound,
+        Err(r) => return r.into(),
+    };
+    let got = shrink_placed(&sound, region, offset, old, old_align, new, new_align);
+    change_in(arena, got.change);
     got.answer.into()
 }

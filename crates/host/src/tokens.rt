@@ -4,9 +4,12 @@ ghost use Rattle.calls.specs.Token.{token_of, with_token_of, cancel_of};
 ghost use Rattle.host.specs.Said.{said_of, said_token};
 
 use crate::answers::said_token;
+use crate::change::change_in;
 use crate::{Said, SaidToken};
-use arena::Arena;
+use arena::{Arena, Refusal};
 use calls::Token;
+use calls::refusals::lent_sound;
+use takeback::tokens::{allocate_with_token_placed, cancel_ended};
 
 #[unsafe(no_mangle)]
 pub extern "C" fn miravoly_allocate_with_token(
@@ -18,8 +21,12 @@ pub extern "C" fn miravoly_allocate_with_token(
     ensures value { result ≡ said_token (with_token_of arena.old (length region.now) size align) }
     ensures arena_after { arena.new ≡ (with_token_of arena.old (length region.now) size align).arena }
 {
-    let got = takeback::tokens::allocate_with_token(*arena, region, size, align);
-    *arena = got.arena;
+    let sound = match lent_sound(arena.lent(), region.len()) {
+        Ok(sound) => sound,
+        Err(r) => return said_token(Err(r), Token::default()),
+    };
+    let got = allocate_with_token_placed(&sound, size, align);
+    change_in(arena, got.change);
     said_token(got.answer, got.token)
 }
 
@@ -34,7 +41,10 @@ pub extern "C" fn miravoly_cancel(
     ensures arena_after { arena.new ≡ (cancel_of arena.old offset (token_of count pointer)).arena }
 {
     let token = Token { count, pointer };
-    let got = takeback::tokens::cancel(*arena, offset, token);
-    *arena = got.arena;
+    let Some(sound) = arena.sound() else {
+        return Refusal::State.into();
+    };
+    let got = cancel_ended(&sound, offset, token);
+    change_in(arena, got.change);
     got.answer.into()
 }

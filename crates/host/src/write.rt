@@ -5,7 +5,11 @@ ghost use Rattle.calls.specs.Write.{copy_in_bytes, fill_bytes};
 ghost use Rattle.host.specs.Said.{said_given};
 
 use crate::Said;
+use crate::change::change_in;
 use arena::Arena;
+use calls::allocate::allocate_placed;
+use calls::bytes::{copy_from, fill};
+use calls::refusals::lent_sound;
 
 #[unsafe(no_mangle)]
 pub extern "C" fn miravoly_copy_in(
@@ -18,9 +22,17 @@ pub extern "C" fn miravoly_copy_in(
     ensures arena_after { arena.new ≡ (allocate_of arena.old (length region.old) (length source.now) align).arena }
     ensures region_after { region.new ≡ copy_in_bytes arena.old region.old source.now align }
 {
-    let got = calls::write::copy_in(*arena, region, source, align);
-    *arena = got.arena;
-    got.answer.into()
+    let sound = match lent_sound(arena.lent(), region.len()) {
+        Ok(sound) => sound,
+        Err(r) => return r.into(),
+    };
+    let got = allocate_placed(&sound, source.len(), align);
+    change_in(arena, got.change);
+    let said = Said::from(got.answer);
+    if let Ok(offset) = got.answer {
+        copy_from(region, offset, source);
+    }
+    said
 }
 
 #[unsafe(no_mangle)]
@@ -35,7 +47,15 @@ pub extern "C" fn miravoly_fill(
     ensures arena_after { arena.new ≡ (allocate_of arena.old (length region.old) size align).arena }
     ensures region_after { region.new ≡ fill_bytes arena.old region.old size align value }
 {
-    let got = calls::write::fill_in(*arena, region, size, align, value);
-    *arena = got.arena;
-    got.answer.into()
+    let sound = match lent_sound(arena.lent(), region.len()) {
+        Ok(sound) => sound,
+        Err(r) => return r.into(),
+    };
+    let got = allocate_placed(&sound, size, align);
+    change_in(arena, got.change);
+    let said = Said::from(got.answer);
+    if let Ok(offset) = got.answer {
+        fill(region, offset, size, value);
+    }
+    said
 }

@@ -7,6 +7,7 @@ use std::io::Read;
 use trial::table::read_full;
 
 // A request file, its name and the lines that it has to print.
+// It borrows from a `Room` what that has room for.
 #[derive(Clone, Copy)]
 pub struct Night<'a> {
     pub name: &'a [u8],

@@ -91,6 +91,7 @@ impl Night<'_> {
         self.lines.iter().filter(|b| **b == b'\n').count()
     }
 
+    // No Display: the night and what was found are told in one line each.
     fn report<W: Write>(&self, out: &mut W, found: [Option<Difference>; 3]) -> io::Result<()> {
         for difference in found.iter().flatten() {
             out.write_all(self.name)?;

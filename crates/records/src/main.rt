@@ -67,6 +67,7 @@ fn show_faults<W: Write>(out: &mut W, a: Arena, refused: bool) -> io::Result<boo
     Ok(found)
 }
 
+// No Display: the calls are made while the line is written.
 fn show_verdict<W: Write>(out: &mut W, a: Arena, refused: bool) -> io::Result<()> {
     write!(out, ":")?;
     if show_faults(out, a, refused)? {
@@ -133,6 +134,7 @@ fn seen(call: Call, a: Arena) -> usize {
         .count()
 }
 
+// No Display: the calls are made while the lines are written.
 fn show_planted<W: Write>(out: &mut W, a: Arena) -> io::Result<()> {
     for call in CALLS {
         let seen = seen(call, a);

@@ -42,6 +42,7 @@ impl Relay {
     }
 
     // The input is as the read left it, with what it gave after the bytes in hand.
+    // No twin of `after_write`: nothing moved is the end of the input here, and a failure there.
     pub fn after_read(self, got: Result<usize, Failure>, input: &[u8], output: &mut [u8]) -> Self
         requires { Fits self (length input.now) (length output.old) × (self.next ≡ Read) }
         ensures { Fits result (length input.now) (length output.new) × ((lent : List ℕ) → GoesBy (read_answer got (drop self.filled input.now)) self lent input.now output.old result lent input.now output.new) }

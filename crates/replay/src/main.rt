@@ -106,6 +106,7 @@ fn error_of(answer: io::Result<usize>) -> io::Error
     }
 }
 
+// No Display: a word for each end, to standard error.
 fn tell_too_long(rt: &impl Eprint) -> io::Result<()> {
     eprintln!(rt; "replay: standard input is too long")
 }

@@ -189,6 +189,7 @@ pub fn feed(state: State, lent: &mut [u8], window: &[u8], out: &mut [u8]) -> Fed
 }
 
 // What the end of the input adds in a run, by what stands at the front of the bytes that were never taken.
+// Into a lent buffer, as `print` says.
 #[tactic(auto, unfolding(crate::specs::Inner::front_said, crate::specs::Text::ending_line, crate::specs::Machine::ending_at, crate::specs::Machine::ending_text, calls::specs::Bytes::written))]
 fn put_unfinished(out: &mut [u8], number: usize, rest: &[u8]) -> usize
     requires { end_room ≤ length out.old }

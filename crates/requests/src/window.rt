@@ -35,6 +35,7 @@ pub fn run_window(
     requires window_bound { number + length window.now < 2 ^ 64 }
     ensures { Through (passed_of (length out.old) number (memory_of arena region.old) window.now) out.old result region.new out.new }
 {
+    // The columns are taken out, since `make` is lent them one by one.
     let mut head = arena.head;
     let mut starts = arena.starts;
     let mut sizes = arena.sizes;

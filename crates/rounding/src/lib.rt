@@ -25,8 +25,8 @@ pub fn is_multiple(n: usize, divisor: usize) -> bool
     n.is_multiple_of(divisor)
 }
 
-// The same by a power of two, where the remainder is a mask and costs no division. One form for both takes a type for powers, which each caller has to make of a
-// plain number of the record: no plainer.
+// The same by a power of two, where the remainder is a mask and costs no division. One form for both takes a type for powers, which each caller has to make of
+// a plain number of the record: no plainer.
 fn remainder_by_power(n: usize, power: usize) -> usize
     requires { one_bit power ≡ true }
     ensures { result ≡ n % power }

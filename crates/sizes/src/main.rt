@@ -90,6 +90,7 @@ fn ask_place(a: Arena, n: usize, multiple: usize) -> Option<Said> {
     Some(Said::Place(lowest_place(&sound.lent, multiple, n)))
 }
 
+// No Display: where no rule was asked there is no value.
 fn show_said<W: Write>(out: &mut W, said: Option<Said>) -> io::Result<()> {
     match said {
         Some(said) => writeln!(out, " = {said}"),

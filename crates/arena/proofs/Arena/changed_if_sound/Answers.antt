@@ -1,6 +1,5 @@
 -- `arena::Arena::changed_if_sound` meets its contract: an unsound record is refused, and a sound one is changed. Assumes nothing.
-use mathlib.Core.Bool.{true}
-use mathlib.Core.Path.{◌≡◌, sym, ◌∙◌, ap}
+use mathlib.Core.Path.{sym, ◌∙◌, ap}
 use Rattle.rounding.proofs.Tests.{taken_false, left-true}
 use Rattle.std.specs.Prelude.{Ok}
 use Rattle.arena.specs.Sound.{sound_of}

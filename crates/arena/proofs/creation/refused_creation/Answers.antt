@@ -1,5 +1,5 @@
 -- `arena::creation::refused_creation` meets its contract. Assumes nothing.
-use Rattle.std.specs.Prelude.{Ok, Err}
+use Rattle.std.specs.Prelude.{Err}
 use Rattle.arena.specs.Creation.{refused_creation}
 use Rattle.arena.proofs.creation.refused_creation.Goals as goal
 

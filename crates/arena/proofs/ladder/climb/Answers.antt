@@ -4,7 +4,6 @@ use Prim.Native.Nat.{ℕ, ◌≤◌, ◌^◌}
 use native.Mathlib.Omega.{arith}
 use native.Mathlib.Nat.{le_trans}
 use mathlib.Core.Path.{◌≡◌, sym, ◌∙◌, ap}
-use Rattle.arena.specs.Record.{chunks_of}
 use Rattle.arena.specs.Ladder.{held_bytes, tried, first_base}
 use Rattle.arena.specs.Inner.{lent_of}
 use Rattle.arena.proofs.Rungs.{climb-starts, climb-bound, climb-served, climb-out, climb-ends, climb-on, first-base-bound}

@@ -1,10 +1,7 @@
 -- `arena::ladder::first_base` meets its contract: the current chunk, where there is one, is the first of the held ones. Assumes nothing.
-use Prim.Native.Nat.{◌≤◌, ◌*◌, max}
+use Prim.Native.Nat.{◌*◌, max}
 use native.Mathlib.Omega.{arith}
-use mathlib.Core.Path.{◌≡◌, sym, ◌∙◌, ap}
-use Rattle.std.specs.Prelude.{Some}
-use Rattle.arena.specs.Record.{held_of}
-use Rattle.arena.specs.Inner.{lent_of, current_of}
+use mathlib.Core.Path.{sym, ◌∙◌, ap}
 use Rattle.arena.proofs.Current.{none-current, current-is}
 use Rattle.arena.proofs.Rungs.{first-base-none, first-base-current, current-within}
 use Rattle.arena.proofs.ladder.first_base.Goals as goal

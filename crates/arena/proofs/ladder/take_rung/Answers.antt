@@ -2,7 +2,6 @@
 use native.Mathlib.Omega.{arith}
 use mathlib.Core.Path.{◌≡◌, sym, ◌∙◌, ap}
 use Rattle.std.specs.Prelude.{option_map}
-use Rattle.arena.specs.Record.{chunks_of}
 use Rattle.arena.specs.Placing.{lowest_place}
 use Rattle.arena.specs.Ladder.{new_chunk, rung_chunk}
 use Rattle.arena.specs.Inner.{lent_of}

@@ -6,7 +6,7 @@ use native.Mathlib.Decide.{dec_lt}
 use native.Mathlib.Omega.{arith}
 use mathlib.Core.Bool.{true}
 use mathlib.Core.List.{List}
-use mathlib.Core.Path.{◌≡◌, sym, ap}
+use mathlib.Core.Path.{◌≡◌, sym}
 use lib.Dec.{leb}
 use borrow.Author.Tests.{le-leb}
 use Rattle.rounding.specs.Every.{every}

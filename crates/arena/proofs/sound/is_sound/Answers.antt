@@ -12,7 +12,7 @@ use Rattle.rounding.proofs.Powers.{power-one-bit}
 use Rattle.rounding.proofs.Tests.{taken_false, left-true}
 use Rattle.arena.specs.declared.Arena.{Arena}
 use Rattle.arena.specs.Numbers.{places}
-use Rattle.arena.specs.Record.{record_of, held_of}
+use Rattle.arena.specs.Record.{held_of}
 use Rattle.arena.specs.Sound.{head_sound, chunk_sound, table_sound, sound_of}
 use Rattle.arena.proofs.Soundness.{head-open, chunk-open, chunk-shut, apart-shut, ascending-sound, ascending-apart}
 use Rattle.arena.proofs.sound.is_sound.Goals as goal

@@ -1,15 +1,15 @@
 -- `reshape::grow::grow_zeroed` meets its contract: after a served grow the bytes past the old ones are cleared, and they lie in the region.
 -- Assumes nothing.
-use Prim.Native.Nat.{ℕ, ◌+◌, ◌-◌, ◌≤◌}
+use Prim.Native.Nat.{ℕ, ◌+◌, ◌-◌}
 use native.Mathlib.Omega.{arith}
 use mathlib.Core.List.{List}
-use mathlib.Core.Path.{◌≡◌, sym, ◌∙◌, ap}
+use mathlib.Core.Path.{sym, ◌∙◌, ap}
 use lib.ListN.{length, replicate}
 use Rattle.arena.specs.Refusals.{Allocation}
 use Rattle.calls.specs.Bytes.{written, carried, after_given}
 use Rattle.calls.specs.Grow.{grow_bytes, grow_zeroed_bytes}
 use Rattle.calls.proofs.Answering.{bytes-shown}
-use Rattle.calls.proofs.Changing.{BothInside, grow-served}
+use Rattle.calls.proofs.Changing.{grow-served}
 use Rattle.reshape.proofs.grow.grow_zeroed.Goals as goal
 
 -- what carrying and then clearing makes of the bytes

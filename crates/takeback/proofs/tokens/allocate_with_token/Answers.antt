@@ -5,7 +5,6 @@ use lib.ListN.{length}
 use Rattle.arena.specs.Record.{held_of}
 use Rattle.arena.specs.Refusals.{Allocation}
 use Rattle.std.specs.Prelude.{Err}
-use Rattle.calls.specs.declared.TokenAllocation.{TokenAllocation}
 use Rattle.calls.specs.Token.{token_given, token_for, with_token_of}
 use Rattle.calls.specs.Inner.{lent_tests, first_of, with_token}
 use Rattle.calls.proofs.Requests.{allocate-lent}

@@ -1,13 +1,12 @@
 -- `takeback::tokens::is_bad_token` meets its contract: each way out is one case of what makes a token bad. Assumes nothing.
 use Prim.Native.Nat.{ℕ}
 use native.Mathlib.Omega.{arith}
-use mathlib.Core.Bool.{Bool, not}
+use mathlib.Core.Bool.{not}
 use mathlib.Core.List.{List, ◌∷◌}
 use mathlib.Core.Path.{◌≡◌, sym, ◌∙◌, ap}
 use lib.ListN.{length}
 use Rattle.rounding.proofs.Powers.{power-one-bit}
 use Rattle.arena.specs.declared.Chunk.{Chunk}
-use Rattle.arena.specs.Record.{held_of}
 use Rattle.arena.proofs.Current.{Current, none-current, current-is}
 use Rattle.arena.proofs.Soundness.{sound-open}
 use Rattle.arena.proofs.View.{length-chunks}

@@ -1,17 +1,12 @@
 -- `takeback::tokens::rewind` meets its contract: with no chunk or the block elsewhere the record stays, else the current pointer moves.
 -- Assumes nothing.
 use native.Mathlib.Omega.{arith}
-use mathlib.Core.Bool.{true}
-use mathlib.Core.Path.{◌≡◌, sym, ◌∙◌, ap}
-use Rattle.arena.specs.declared.Arena.{Arena}
-use Rattle.arena.specs.Record.{held_of, holding}
-use Rattle.arena.specs.Sound.{sound_of}
+use mathlib.Core.Path.{sym, ◌∙◌, ap}
+use Rattle.arena.specs.Record.{holding}
 use Rattle.arena.specs.Inner.{changed_by}
 use Rattle.arena.proofs.Current.{none-current, current-is}
 use Rattle.arena.proofs.Soundness.{sound-open}
 use Rattle.arena.proofs.View.{length-chunks, holding-held}
-use Rattle.calls.specs.declared.Token.{Token}
-use Rattle.calls.specs.Token.{rewound}
 use Rattle.calls.proofs.Reading.{current-end}
 use Rattle.calls.proofs.Cancelling.{rewound-none, rewound-elsewhere, rewound-recorded, rewound-end}
 use Rattle.takeback.proofs.tokens.rewind.Goals as goal

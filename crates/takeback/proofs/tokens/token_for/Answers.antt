@@ -1,7 +1,6 @@
 -- `takeback::tokens::token_for` meets its contract: the current chunk, where there is one, has the current pointer. Assumes nothing.
 use Prim.Native.Nat.{ℕ}
-use native.Mathlib.Omega.{arith}
-use mathlib.Core.Path.{◌≡◌, sym, ◌∙◌, ap}
+use mathlib.Core.Path.{sym, ◌∙◌, ap}
 use lib.ListN.{length}
 use Rattle.arena.proofs.Current.{none-current, current-is}
 use Rattle.arena.proofs.View.{length-chunks}
