@@ -2,12 +2,10 @@
 // stdout has its lines with the answers, as they follow from document 01.
 #![tactic(auto)]
 
-ghost use Rattle.std.specs.Prelude.{◌≡◌, ◌≤◌, true};
-ghost use Rattle.arena.specs.Numbers.{most};
-ghost use Rattle.arena.specs.Sound.{allowed_align};
+ghost use Rattle.std.specs.Prelude.{◌≡◌, IfSome};
 
 use arena::ladder::{climb, held_bytes, take_rung};
-use arena::layout::Layout;
+use arena::layout::{Allowed, Layout};
 use arena::placing::lowest_place;
 use arena::sizing::usable_size;
 use arena::sound::is_allowed_align;
@@ -38,10 +36,16 @@ impl fmt::Display for Said {
     }
 }
 
-fn is_request(layout: Layout) -> bool
-    ensures { (result ≡ true) → (layout.size ≤ most) × (allowed_align layout.align ≡ true) }
+fn allowed(layout: Layout) -> Option<Allowed>
+    ensures { IfSome result (λ request. request.layout ≡ layout) }
 {
-    layout.size <= Arena::MOST && is_allowed_align(layout.align)
+    if Arena::MOST < layout.size {
+        return None;
+    }
+    if !is_allowed_align(layout.align) {
+        return None;
+    }
+    Some(Allowed { layout })
 }
 
 // A rule isn't asked where the record is unsound or the request isn't allowed.
@@ -49,10 +53,8 @@ fn ask_usable(base: usize, layout: Layout) -> Option<Said> {
     if Arena::MOST < base {
         return None;
     }
-    if !is_request(layout) {
-        return None;
-    }
-    Some(Said::Usable(usable_size(base, layout)))
+    let request = allowed(layout)?;
+    Some(Said::Usable(usable_size(base, request)))
 }
 
 // One rung, whether the ladder comes to it or not.
@@ -61,20 +63,16 @@ fn ask_rung(a: Arena, base: usize, layout: Layout) -> Option<Said> {
     if Arena::MOST < base {
         return None;
     }
-    if !is_request(layout) {
-        return None;
-    }
+    let request = allowed(layout)?;
     let held = held_bytes(&sound);
-    let got = take_rung(&sound, held, layout, base);
-    Some(Said::Rung(got.ok_or(usable_size(base, layout))))
+    let got = take_rung(&sound, held, request, base);
+    Some(Said::Rung(got.ok_or(usable_size(base, request))))
 }
 
 fn ask_ladder(a: Arena, layout: Layout) -> Option<Said> {
     let sound = a.sound()?;
-    if !is_request(layout) {
-        return None;
-    }
-    Some(Said::Ladder(climb(&sound, layout)))
+    let request = allowed(layout)?;
+    Some(Said::Ladder(climb(&sound, request)))
 }
 
 fn ask_place(a: Arena, n: usize, multiple: usize) -> Option<Said> {
