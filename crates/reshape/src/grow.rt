@@ -6,7 +6,7 @@ ghost use Rattle.calls.specs.Allocate.{given};
 ghost use Rattle.calls.specs.Grow.{grow_in, grow_of, grow_bytes, grow_zeroed_bytes};
 ghost use Rattle.calls.specs.Inner.{grown_pointer, FastBy, AnsweredBy, GrowTested};
 
-use arena::layout::{Block, Layout};
+use arena::layout::{Allowed, Block, Layout};
 use arena::sound::Sound;
 use arena::{Arena, Outcome};
 use calls::Answered;
@@ -38,7 +38,7 @@ fn in_place(a: &Sound, block: Block, new: Layout) -> Option<usize>
         size: more,
         ..block.layout
     };
-    current_gives(a, lacking)
+    current_gives(a, Allowed { layout: lacking })
 }
 
 // Where the grown block stands, in place or afresh; no byte is carried yet.

@@ -42,11 +42,14 @@ overflow_sub-more c =
     let head = (sound-open _ c.args.a.now.sound).head in
     omega (arith, c.up_to_power.ensures, c.requires.upwards, up-at-least c.args.new.size c.args.a.now.lent.head.minimum (power-positive head.minimum-power))
 
-pub current_gives-requires : goal.current_gives-requires
-current_gives-requires c =
+pub invariant_of-current_gives : goal.invariant_of-current_gives
+invariant_of-current_gives c =
     let head = (sound-open _ c.args.a.now.sound).head in
     let even : c.args.a.now.lent.head.minimum ∣ most = power_divides head.minimum-power (two-to-the 30) (omega (arith, head.minimum-bound)) in
-    (omega (arith, c.up_to_power.ensures, up_least c.args.new.size c.args.a.now.lent.head.minimum even c.requires.request.size_bound), c.requires.old_align_allowed)
+    record {
+      size = omega (arith, c.up_to_power.ensures, up_least c.args.new.size c.args.a.now.lent.head.minimum even c.requires.request.size_bound);
+      align = c.requires.old_align_allowed;
+    }
 
 pub returns : goal.returns
 returns c =
