@@ -91,6 +91,7 @@ pub fn allocate_placed(a: &Sound, layout: Layout) -> Answered<usize>
 }
 
 // Each by-value call has this frame of three lines; a generic one over closures would say each call's contract once more.
+// The arguments are document 01's own, in its order, here and in each call by value.
 pub fn allocate(a: Arena, region: &[u8], size: usize, align: usize) -> Outcome<usize>
     ensures { result ≡ allocate_of a (length region.now) size align }
 {

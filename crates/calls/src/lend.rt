@@ -15,6 +15,7 @@ fn answer_of(a: Arena, lent: usize, block: Block) -> Result<(), Refusal>
     block_answer(&sound, block)
 }
 
+// Document 01's own arguments.
 pub fn lend_answer(
     a: Arena,
     region: &[u8],

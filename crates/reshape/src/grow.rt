@@ -54,6 +54,7 @@ pub fn grown_block(a: &Sound, block: Block, new: Layout) -> Answered<usize>
 
 // Every test and every way to serve, in the record's own region.
 // Document 01 defines grow, shrink and resize each by itself: one function for all would take their definitions as arguments.
+// The region stays beside the record: a struct that holds a `&mut` would need two clauses more in each function that takes it.
 fn grow_in_full(a: &Sound, region: &mut [u8], block: Block, new: Layout) -> Answered<usize>
     requires { length region.old ≡ a.now.lent.head.region }
     ensures placed_by { AnsweredBy (λ r. grow_of r (length region.old) block.offset block.layout.size block.layout.align new.size new.align) (lent_of a.now.lent) result }
@@ -103,6 +104,7 @@ pub fn grow_placed(a: &Sound, region: &mut [u8], block: Block, new: Layout) -> A
     Answered::moved(p)
 }
 
+// The frame and the arguments as allocate's.
 pub fn grow(
     a: Arena,
     region: &mut [u8],

@@ -57,6 +57,7 @@ pub fn resize_placed(a: &Sound, region: &mut [u8], block: Block, new: usize) -> 
     got
 }
 
+// The frame and the arguments as allocate's.
 pub fn resize(
     a: Arena,
     region: &mut [u8],

@@ -121,6 +121,7 @@ pub fn shrink_placed(a: &Sound, region: &mut [u8], block: Block, new: Layout) ->
     Answered::moved(p)
 }
 
+// The frame and the arguments as allocate's.
 pub fn shrink(
     a: Arena,
     region: &mut [u8],

@@ -50,6 +50,7 @@ pub fn allocate_with_token_placed(a: &Sound, layout: Layout) -> TokenPlaced
     }
 }
 
+// The frame and the arguments as allocate's.
 pub fn allocate_with_token(a: Arena, region: &[u8], size: usize, align: usize) -> TokenAllocation
     ensures { result ≡ with_token_of a (length region.now) size align }
 {
@@ -125,6 +126,7 @@ pub fn cancel_ended(a: &Sound, offset: usize, token: Token) -> Answered<()>
     }
 }
 
+// The frame as free's, and document 01's own arguments.
 pub fn cancel(a: Arena, offset: usize, token: Token) -> Outcome<()>
     ensures { result ≡ cancel_of a offset token }
 {
