@@ -45,8 +45,8 @@
  * ALIGNMENT is that of the offset. A host that needs aligned addresses lends a
  * region that begins at a multiple of 4,096.
  *
- * SPEED. miravoly_fast.h has the calls that are made most without a copy of the
- * record, and without a test of it where the host keeps it to itself.
+ * SPEED. miravoly_fast.h has the calls that are made most with the record lent
+ * in parts, and without a test of it where the host keeps it to itself.
  */
 #ifndef MIRAVOLY_H
 #define MIRAVOLY_H

@@ -1,6 +1,6 @@
 /*
- * Miravoly: the calls that a busy host makes most, without a copy of the
- * record. The archive is libfast.a; creation, the limits and the walk stay with
+ * Miravoly: the calls that a busy host makes most, with the record lent in
+ * parts. The archive is libfast.a; creation, the limits and the walk stay with
  * libhost.a, so a program links both.
  *
  *     static uint8_t region[65536];

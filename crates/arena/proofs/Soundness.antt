@@ -22,7 +22,8 @@ use Rattle.arena.specs.declared.Chunk.{Chunk}
 use Rattle.arena.specs.Numbers.{step, places, most, largest_align, largest_minimum}
 use Rattle.arena.specs.Record.{end_of, past_of, held_of}
 use Rattle.arena.specs.Sound.{allowed_align, allowed_minimum, limit_formed, head_sound, chunk_sound, clear, apart, unused_zero, table_sound, sound_of}
-use Rattle.arena.specs.Inner.{Ready, ascending}
+use Rattle.arena.specs.declared.lent.Lent.{Lent}
+use Rattle.arena.specs.Inner.{Ready, ascending, lent_of}
 use Rattle.rounding.proofs.Every.{every-open, every-shut, every_map}
 
 -- a power of two that is at most `top`
@@ -293,3 +294,7 @@ sound-ready {a} s =
       count_bound = s.head.count_bound;
       inside = every_map (λ c h. h.inside) (held_of a) s.chunks;
     }
+
+-- a lent record that is known to be sound is ready for the ladder and for placing
+pub lent-ready : (l : Lent) → sound_of (lent_of l) ≡ true → Ready l.head (held_of (lent_of l))
+lent-ready l t = sound-ready (sound-open (lent_of l) t)

@@ -6,7 +6,8 @@ ghost use Rattle.arena.specs.Sound.{sound_of};
 ghost use Rattle.arena.specs.Creation.{refused_creation, created_of};
 
 use crate::ladder::take_rung;
-use crate::sound::is_allowed_minimum;
+use crate::layout::{Allowed, Layout};
+use crate::sound::{Sound, is_allowed_minimum};
 use crate::{Arena, Chunk, Head, Outcome, Refusal};
 
 // The record of this head with no chunk.
@@ -84,7 +85,15 @@ impl Arena {
                 arena: fresh,
             };
         }
-        let got = take_rung(&fresh.lent(), 0, capacity, minimum, Arena::DEFAULT_SIZE);
+        let layout = Layout {
+            size: capacity,
+            align: minimum,
+        };
+        let request = Allowed { layout };
+        let sound = Sound {
+            lent: fresh.lent(),
+        };
+        let got = take_rung(&sound, 0, request, Arena::DEFAULT_SIZE);
         let Some(c) = got else {
             return refused_creation(Refusal::Room);
         };

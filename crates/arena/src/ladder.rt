@@ -1,32 +1,29 @@
 // The ladder: from a first base down by halves, the first rung that is served gives the new chunk (`alloc_layout_slow` in the Rust).
 ghost use Rattle.std.specs.Prelude.{◌≡◌, true, ◌≤◌, ◌^◌};
-ghost use Rattle.arena.specs.Numbers.{most};
 ghost use Rattle.arena.specs.Record.{held_of};
-ghost use Rattle.arena.specs.Sound.{allowed_align};
 ghost use Rattle.arena.specs.Ladder.{held_bytes, first_base, tried, under_limit, rung_chunk, ladder};
-ghost use Rattle.arena.specs.Inner.{lent_of, Ready};
+ghost use Rattle.arena.specs.Inner.{lent_of};
 
-use crate::lent::Lent;
+use crate::layout::Allowed;
 use crate::placing::lowest_place;
 use crate::sizing::usable_size;
+use crate::sound::Sound;
 use crate::{Arena, Chunk, Head};
 
-pub fn held_bytes(a: &Lent) -> usize
-    requires { Ready a.now.head (held_of (lent_of a.now)) }
-    ensures { result ≡ held_bytes (held_of (lent_of a.now)) }
+pub fn held_bytes(a: &Sound) -> usize
+    ensures { result ≡ held_bytes (held_of (lent_of a.now.lent)) }
 {
-    let count = a.head.count;
+    let count = a.lent.head.count;
     let mut held = 0;
     // By places and not by an iterator: a chunk is put together from three columns, and the invariant speaks of the places passed.
     for i in 0..count {
-        held += a.chunk_at(i).size;
+        held += a.lent.chunk_at(i).size;
     }
     held
 }
 
-fn first_base(a: &Lent, size: usize) -> usize
-    requires { Ready a.now.head (held_of (lent_of a.now)) }
-    ensures { result ≡ first_base (held_of (lent_of a.now)) size }
+fn first_base(a: &Sound, size: usize) -> usize
+    ensures { result ≡ first_base (held_of (lent_of a.now.lent)) size }
 {
     let floor = size.max(Arena::DEFAULT_SIZE);
     let Some(c) = a.current() else {
@@ -69,21 +66,20 @@ fn is_under_limit(h: Head, held: usize, n: usize) -> bool
 }
 
 // The chunk that a rung gives. The held bytes are handed in, since they are the same at every rung.
-pub fn take_rung(a: &Lent, held: usize, size: usize, align: usize, base: usize) -> Option<Chunk>
-    requires ready { Ready a.now.head (held_of (lent_of a.now)) }
-    requires size_le_most { (size ≤ most) × (allowed_align align ≡ true) × (base ≤ 2 ^ 31) }
-    requires held_value { held ≡ held_bytes (held_of (lent_of a.now)) }
-    ensures { result ≡ rung_chunk a.now.head (held_of (lent_of a.now)) size align base }
+pub fn take_rung(a: &Sound, held: usize, request: Allowed, base: usize) -> Option<Chunk>
+    requires base_bound { base ≤ 2 ^ 31 }
+    requires held_value { held ≡ held_bytes (held_of (lent_of a.now.lent)) }
+    ensures { result ≡ rung_chunk a.now.lent.head (held_of (lent_of a.now.lent)) request.layout.size request.layout.align base }
 {
-    let h = a.head;
-    let n = usable_size(base, size, align);
+    let h = a.lent.head;
+    let n = usable_size(base, request);
     if !is_under_limit(h, held, n) {
         return None;
     }
     if Arena::PLACES <= h.count {
         return None;
     }
-    let start = lowest_place(a, Arena::STEP.max(align), n)?;
+    let start = lowest_place(a, Arena::STEP.max(request.layout.align), n)?;
     Some(Chunk {
         start,
         size: n,
@@ -91,16 +87,14 @@ pub fn take_rung(a: &Lent, held: usize, size: usize, align: usize, base: usize) 
     })
 }
 
-pub fn climb(a: &Lent, size: usize, align: usize) -> Option<Chunk>
-    requires ready { Ready a.now.head (held_of (lent_of a.now)) }
-    requires size_le_most { (size ≤ most) × (allowed_align align ≡ true) }
-    ensures { result ≡ ladder a.now.head (held_of (lent_of a.now)) size align }
+pub fn climb(a: &Sound, request: Allowed) -> Option<Chunk>
+    ensures { result ≡ ladder a.now.lent.head (held_of (lent_of a.now.lent)) request.layout.size request.layout.align }
 {
-    let h = a.head;
+    let h = a.lent.head;
     let held = held_bytes(a);
-    let mut base = first_base(a, size);
-    while is_tried(h, held, size, base) {
-        if let Some(c) = take_rung(a, held, size, align, base) {
+    let mut base = first_base(a, request.layout.size);
+    while is_tried(h, held, request.layout.size, base) {
+        if let Some(c) = take_rung(a, held, request, base) {
             return Some(c);
         }
         if base == 0 {

@@ -7,6 +7,7 @@ ghost use Rattle.arena.specs.Inner.{lent_of, current_of};
 
 use crate::{Arena, Chunk, Head};
 
+// It borrows what an `Arena` holds.
 #[derive(Clone, Copy)]
 pub struct Lent<'a> {
     pub head: Head,

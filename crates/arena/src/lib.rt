@@ -4,6 +4,7 @@
 pub mod change;
 pub mod creation;
 pub mod ladder;
+pub mod layout;
 pub mod lent;
 mod limit;
 pub mod placing;
@@ -17,7 +18,7 @@ ghost use Rattle.arena.specs.Refusals.{number_of};
 // Everything of the record but its table. The limit is two numbers, so that no limit has one form: both zero.
 // A flag beside its number, and no Option: a host's memory holds these five numbers (the C interface).
 #[repr(C)]
-#[derive(Clone, Copy)]
+#[derive(Clone, Copy, PartialEq, Eq)]
 pub struct Head {
     pub region: usize,
     pub minimum: usize,
@@ -30,7 +31,7 @@ pub struct Head {
 // Plain numbers only, so that any bytes that a host lends are some record.
 // Columns, and no array of chunks: a host's memory holds them so (the C interface).
 #[repr(C)]
-#[derive(Clone, Copy)]
+#[derive(Clone, Copy, PartialEq, Eq)]
 pub struct Arena {
     pub head: Head,
     pub starts: [usize; 32],

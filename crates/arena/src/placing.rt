@@ -4,9 +4,9 @@ ghost use Rattle.std.specs.Int.{◌∣◌};
 ghost use Rattle.arena.specs.Numbers.{largest_align};
 ghost use Rattle.arena.specs.Record.{past_of, held_of};
 ghost use Rattle.arena.specs.Placing.{misses, lowest_place};
-ghost use Rattle.arena.specs.Inner.{lent_of, Ready, Passed};
+ghost use Rattle.arena.specs.Inner.{lent_of, Passed};
 
-use crate::lent::Lent;
+use crate::sound::Sound;
 use crate::{Arena, Chunk};
 
 fn is_clear_of(at: usize, length: usize, c: Chunk) -> bool
@@ -20,16 +20,15 @@ fn is_clear_of(at: usize, length: usize, c: Chunk) -> bool
 }
 
 // Goes once through the table and passes each chunk that stands in the way of length bytes.
-fn past_chunks(a: &Lent, align: usize, length: usize, from: usize) -> usize
-    requires ready { Ready a.now.head (held_of (lent_of a.now)) }
-    requires align_nonzero { (0 < align) × (align ≤ largest_align) × (align ∣ from) × (from ≤ a.now.head.region) × (length ≤ a.now.head.region) }
-    ensures { Passed (held_of (lent_of a.now)) align length from result }
+fn past_chunks(a: &Sound, align: usize, length: usize, from: usize) -> usize
+    requires { (0 < align) × (align ≤ largest_align) × (align ∣ from) × (from ≤ a.now.lent.head.region) × (length ≤ a.now.lent.head.region) }
+    ensures { Passed (held_of (lent_of a.now.lent)) align length from result }
 {
-    let count = a.head.count;
+    let count = a.lent.head.count;
     let mut at = from;
     // By places, since a chunk is put together from three columns.
     for i in 0..count {
-        let c = a.chunk_at(i);
+        let c = a.lent.chunk_at(i);
         if !is_clear_of(at, length, c) {
             at = rounding::round_up_to(c.start + c.size + Arena::FOOTER, align);
         }
@@ -37,12 +36,11 @@ fn past_chunks(a: &Lent, align: usize, length: usize, from: usize) -> usize
     at
 }
 
-pub fn lowest_place(a: &Lent, align: usize, n: usize) -> Option<usize>
-    requires ready { Ready a.now.head (held_of (lent_of a.now)) }
-    requires align_nonzero { (0 < align) × (align ≤ largest_align) × (n < 2 ^ 63) }
-    ensures { result ≡ lowest_place a.now.head.region (held_of (lent_of a.now)) align n }
+pub fn lowest_place(a: &Sound, align: usize, n: usize) -> Option<usize>
+    requires { (0 < align) × (align ≤ largest_align) × (n < 2 ^ 63) }
+    ensures { result ≡ lowest_place a.now.lent.head.region (held_of (lent_of a.now.lent)) align n }
 {
-    let region = a.head.region;
+    let region = a.lent.head.region;
     let length = n + Arena::FOOTER;
     if region < length {
         return None;

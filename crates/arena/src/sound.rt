@@ -137,6 +137,7 @@ fn are_clear(c: Chunk, d: Chunk) -> bool
 }
 
 // Place i and the places before it.
+// Of a record that is not known to be sound yet: no type says so much of it, and `Ready` is asked.
 fn is_clear_of_earlier(a: &Lent, i: usize) -> bool
     requires ready { Ready a.now.head (held_of (lent_of a.now)) }
     requires i_lt_count { i < a.now.head.count }

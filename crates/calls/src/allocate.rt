@@ -1,9 +1,7 @@
 // Allocate: from the current chunk, else from a new one (`try_alloc_layout` in the Rust).
-ghost use Rattle.std.specs.Prelude.{◌≡◌, true, ◌≤◌, length, None, Ok};
+ghost use Rattle.std.specs.Prelude.{◌≡◌, length, None, Ok};
 ghost use Rattle.arena.specs.declared.change.Change.TheVariants.{Moved};
-ghost use Rattle.arena.specs.Numbers.{most};
 ghost use Rattle.arena.specs.Record.{held_of};
-ghost use Rattle.arena.specs.Sound.{allowed_align};
 ghost use Rattle.arena.specs.Ladder.{ladder};
 ghost use Rattle.arena.specs.Inner.{lent_of};
 ghost use Rattle.calls.specs.Allocate.{new_chunk_gives, given, allocate_of};
@@ -14,6 +12,7 @@ use crate::fast::{chunk_gives, current_gives};
 use crate::refusals::lent_sound;
 use arena::change::Change;
 use arena::ladder::climb;
+use arena::layout::{Allowed, Layout};
 use arena::sound::{Sound, is_allowed_align};
 use arena::{Arena, Chunk, Outcome, Refusal};
 
@@ -30,14 +29,13 @@ impl Answered<usize> {
 }
 
 // The ladder's part: a new chunk becomes current and gives the block.
-fn placed_slow(a: &Sound, size: usize, align: usize) -> Answered<usize>
-    requires { (size ≤ most) × (allowed_align align ≡ true) }
-    ensures { AnsweredBy (λ r. given None r (new_chunk_gives r.head.minimum (held_of r) (ladder r.head (held_of r) size align) size align)) (lent_of a.now.lent) result }
+fn placed_slow(a: &Sound, request: Allowed) -> Answered<usize>
+    ensures { AnsweredBy (λ r. given None r (new_chunk_gives r.head.minimum (held_of r) (ladder r.head (held_of r) request.layout.size request.layout.align) request.layout.size request.layout.align)) (lent_of a.now.lent) result }
 {
-    let Some(c) = climb(&a.lent, size, align) else {
+    let Some(c) = climb(a, request) else {
         return Answered::refused(Refusal::Room);
     };
-    let Some(pointer) = chunk_gives(a.lent.head.minimum, c, size, align) else {
+    let Some(pointer) = chunk_gives(a.lent.head.minimum, c, request) else {
         return Answered::refused(Refusal::Room);
     };
     Answered {
@@ -47,50 +45,53 @@ fn placed_slow(a: &Sound, size: usize, align: usize) -> Answered<usize>
 }
 
 // Every test and every way to serve, in the record's own region. It has several callers and is long, so that the compiler leaves it a function of its own.
-pub fn allocate_in_full(a: &Sound, size: usize, align: usize) -> Answered<usize>
-    ensures { AnsweredBy (λ r. allocate_of r r.head.region size align) (lent_of a.now.lent) result }
+pub fn allocate_in_full(a: &Sound, layout: Layout) -> Answered<usize>
+    ensures { AnsweredBy (λ r. allocate_of r r.head.region layout.size layout.align) (lent_of a.now.lent) result }
 {
-    if Arena::MOST < size {
+    if Arena::MOST < layout.size {
         return Answered::refused(Refusal::Size);
     }
-    if !is_allowed_align(align) {
+    if !is_allowed_align(layout.align) {
         return Answered::refused(Refusal::Align);
     }
-    let Some(p) = current_gives(a, size, align) else {
-        return placed_slow(a, size, align);
+    let request = Allowed { layout };
+    let Some(p) = current_gives(a, request) else {
+        return placed_slow(a, request);
     };
     Answered::moved(p)
 }
 
 // The current chunk's block, where nothing refuses the request.
-pub fn allocate_fast(a: &Sound, size: usize, align: usize) -> Option<usize>
-    ensures { FastBy (λ r. allocate_of r r.head.region size align) (lent_of a.now.lent) result }
+pub fn allocate_fast(a: &Sound, layout: Layout) -> Option<usize>
+    ensures { FastBy (λ r. allocate_of r r.head.region layout.size layout.align) (lent_of a.now.lent) result }
 {
     if a.lent.head.count == 0 {
         return None;
     }
-    if Arena::MOST < size {
+    if Arena::MOST < layout.size {
         return None;
     }
-    if !is_allowed_align(align) {
+    if !is_allowed_align(layout.align) {
         return None;
     }
-    current_gives(a, size, align)
+    let request = Allowed { layout };
+    current_gives(a, request)
 }
 
 // The same as in full. It is short, so that the compiler puts it into its callers; the record that the long way is lent is a copy made on that way alone, or each
 // call would store its parts.
-pub fn allocate_placed(a: &Sound, size: usize, align: usize) -> Answered<usize>
-    ensures { AnsweredBy (λ r. allocate_of r r.head.region size align) (lent_of a.now.lent) result }
+pub fn allocate_placed(a: &Sound, layout: Layout) -> Answered<usize>
+    ensures { AnsweredBy (λ r. allocate_of r r.head.region layout.size layout.align) (lent_of a.now.lent) result }
 {
-    let Some(p) = allocate_fast(a, size, align) else {
+    let Some(p) = allocate_fast(a, layout) else {
         let copy = *a;
-        return allocate_in_full(&copy, size, align);
+        return allocate_in_full(&copy, layout);
     };
     Answered::moved(p)
 }
 
 // Each by-value call has this frame of three lines; a generic one over closures would say each call's contract once more.
+// The arguments are document 01's own, in its order, here and in each call by value.
 pub fn allocate(a: Arena, region: &[u8], size: usize, align: usize) -> Outcome<usize>
     ensures { result ≡ allocate_of a (length region.now) size align }
 {
@@ -98,7 +99,7 @@ pub fn allocate(a: Arena, region: &[u8], size: usize, align: usize) -> Outcome<u
         Ok(sound) => sound,
         Err(r) => return Outcome::refused(a, r),
     };
-    let got = allocate_placed(&sound, size, align);
+    let got = allocate_placed(&sound, Layout { size, align });
     Outcome {
         answer: got.answer,
         arena: a.changed(got.change),

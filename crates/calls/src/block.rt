@@ -3,13 +3,13 @@
 ghost use Rattle.std.specs.Prelude.{◌≡◌, true, ◌+◌, ◌<◌, ◌≤◌, ◌^◌};
 ghost use Rattle.rounding.specs.Round.{one_bit};
 ghost use Rattle.arena.specs.Record.{held_of};
-ghost use Rattle.arena.specs.Inner.{lent_of, Ready};
+ghost use Rattle.arena.specs.Inner.{lent_of};
 ghost use Rattle.calls.specs.Tests.{has_block, acceptable};
 ghost use Rattle.calls.specs.Allocate.{at_pointer};
 ghost use Rattle.calls.specs.Inner.{LastBlock};
 
 use arena::Chunk;
-use arena::lent::Lent;
+use arena::layout::Block;
 use arena::sound::{Sound, is_allowed_align};
 
 fn has_block(c: Chunk, offset: usize, size: usize) -> bool
@@ -30,20 +30,19 @@ fn has_block(c: Chunk, offset: usize, size: usize) -> bool
 }
 
 // The newest chunk is asked first: most calls name a block that was given out lately.
-pub fn is_acceptable(a: &Lent, offset: usize, size: usize, align: usize) -> bool
-    requires ready { Ready a.now.head (held_of (lent_of a.now)) }
-    requires align_value { one_bit align ≡ true }
-    ensures { result ≡ acceptable (held_of (lent_of a.now)) offset size align }
+pub fn is_acceptable(a: &Sound, block: Block) -> bool
+    requires { one_bit block.layout.align ≡ true }
+    ensures { result ≡ acceptable (held_of (lent_of a.now.lent)) block.offset block.layout.size block.layout.align }
 {
-    if !rounding::is_multiple_of_power(offset, align) {
+    if !rounding::is_multiple_of_power(block.offset, block.layout.align) {
         return false;
     }
-    let mut left = a.head.count;
+    let mut left = a.lent.head.count;
     // Counted down, so that what is left is the list of the first places, as the definition goes by.
     while 0 < left {
         left -= 1;
-        let c = a.chunk_at(left);
-        if has_block(c, offset, size) {
+        let c = a.lent.chunk_at(left);
+        if has_block(c, block.offset, block.layout.size) {
             return true;
         }
     }
@@ -62,20 +61,20 @@ pub fn is_at_pointer(a: &Sound, offset: usize) -> bool
 
 // Whether the block is the last one given out, and nothing is wrong with it. No other chunk has to be asked: it ends in the current one, so that its size is
 // within the maximum too.
-pub fn is_last_block(a: &Sound, offset: usize, size: usize, align: usize) -> bool
-    ensures { result ≡ true → LastBlock (lent_of a.now.lent) offset size align }
+pub fn is_last_block(a: &Sound, block: Block) -> bool
+    ensures { result ≡ true → LastBlock (lent_of a.now.lent) block.offset block.layout.size block.layout.align }
 {
     let Some(c) = a.current() else {
         return false;
     };
-    if offset != c.pointer {
+    if block.offset != c.pointer {
         return false;
     }
-    if c.start + c.size - offset < size {
+    if c.start + c.size - block.offset < block.layout.size {
         return false;
     }
-    if !is_allowed_align(align) {
+    if !is_allowed_align(block.layout.align) {
         return false;
     }
-    rounding::is_multiple_of_power(offset, align)
+    rounding::is_multiple_of_power(block.offset, block.layout.align)
 }

@@ -9,6 +9,7 @@ use crate::Answered;
 use crate::block::is_at_pointer;
 use crate::refusals::block_answer;
 use arena::change::Change;
+use arena::layout::{Block, Layout};
 use arena::sound::Sound;
 use arena::{Arena, Outcome, Refusal};
 
@@ -23,15 +24,15 @@ fn free_tested(a: &Sound, offset: usize, size: usize) -> Change
     Change::Moved(rounding::up_to_power(offset + size, a.lent.head.minimum))
 }
 
-pub fn free_ended(a: &Sound, offset: usize, size: usize, align: usize) -> Answered<()>
-    ensures { AnsweredBy (λ r. free_of r offset size align) (lent_of a.now.lent) result }
+pub fn free_ended(a: &Sound, block: Block) -> Answered<()>
+    ensures { AnsweredBy (λ r. free_of r block.offset block.layout.size block.layout.align) (lent_of a.now.lent) result }
 {
-    if let Err(r) = block_answer(a, offset, size, align) {
+    if let Err(r) = block_answer(a, block) {
         return Answered::refused(r);
     }
     Answered {
         answer: Ok(()),
-        change: free_tested(a, offset, size),
+        change: free_tested(a, block.offset, block.layout.size),
     }
 }
 
@@ -42,7 +43,8 @@ pub fn free(a: Arena, offset: usize, size: usize, align: usize) -> Outcome<()>
     let Some(sound) = a.sound() else {
         return Outcome::refused(a, Refusal::State);
     };
-    let ended = free_ended(&sound, offset, size, align);
+    let layout = Layout { size, align };
+    let ended = free_ended(&sound, Block { offset, layout });
     Outcome {
         answer: ended.answer,
         arena: a.changed(ended.change),

@@ -8,6 +8,7 @@ ghost use Rattle.calls.specs.Inner.{lent_tests, block_tests, change_tests, first
 use crate::Answered;
 use crate::block::is_acceptable;
 use arena::change::Change;
+use arena::layout::{Block, Layout};
 use arena::lent::Lent;
 use arena::sound::{Sound, is_allowed_align};
 use arena::{Arena, Refusal};
@@ -35,46 +36,38 @@ pub fn lent_answer(a: Lent, lent: usize) -> Result<(), Refusal>
 }
 
 // SIZE, ALIGN and BLOCK, of a call that names a block.
-pub fn block_answer(a: &Sound, offset: usize, size: usize, align: usize) -> Result<(), Refusal>
-    ensures { result ≡ first_of (block_tests (lent_of a.now.lent) offset size align) }
+pub fn block_answer(a: &Sound, block: Block) -> Result<(), Refusal>
+    ensures { result ≡ first_of (block_tests (lent_of a.now.lent) block.offset block.layout.size block.layout.align) }
 {
-    if Arena::MOST < size {
+    if Arena::MOST < block.layout.size {
         return Err(Refusal::Size);
     }
-    if !is_allowed_align(align) {
+    if !is_allowed_align(block.layout.align) {
         return Err(Refusal::Align);
     }
-    if !is_acceptable(&a.lent, offset, size, align) {
+    if !is_acceptable(a, block) {
         return Err(Refusal::Block);
     }
     Ok(())
 }
 
 // SIZE, ALIGN, BLOCK and DIRECTION, of a call that asks for another size or alignment of such a block.
-pub fn change_answer(
-    a: &Sound,
-    offset: usize,
-    old: usize,
-    old_align: usize,
-    new: usize,
-    new_align: usize,
-    backwards: bool,
-) -> Result<(), Refusal>
-    ensures { result ≡ first_of (change_tests (lent_of a.now.lent) offset old old_align new new_align backwards) }
+pub fn change_answer(a: &Sound, block: Block, new: Layout, backwards: bool) -> Result<(), Refusal>
+    ensures { result ≡ first_of (change_tests (lent_of a.now.lent) block.offset block.layout.size block.layout.align new.size new.align backwards) }
 {
-    if Arena::MOST < old {
+    if Arena::MOST < block.layout.size {
         return Err(Refusal::Size);
     }
-    if Arena::MOST < new {
+    if Arena::MOST < new.size {
         return Err(Refusal::Size);
     }
-    if !is_allowed_align(old_align) {
+    if !is_allowed_align(block.layout.align) {
         return Err(Refusal::Align);
     }
-    if !is_allowed_align(new_align) {
+    if !is_allowed_align(new.align) {
         return Err(Refusal::Align);
     }
-    if !is_acceptable(&a.lent, offset, old, old_align) {
+    if !is_acceptable(a, block) {
         return Err(Refusal::Block);
     }
     if backwards {

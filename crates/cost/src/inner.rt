@@ -11,6 +11,7 @@ ghost use Rattle.arena.specs.Inner.{lent_of};
 ghost use Rattle.cost.specs.Turns.{Keeps};
 
 use arena::change::{Change, make};
+use arena::layout::{Block, Layout};
 use arena::lent::Lent;
 use arena::sound::Sound;
 use arena::{Arena, Refusal};
@@ -42,65 +43,54 @@ pub enum Calls {
 // The numbers of a turn: what it asks for first, what its second call names and asks for, and nothing, which is 0.
 #[derive(Clone, Copy)]
 pub struct Numbers {
-    pub size: usize,
-    pub align: usize,
-    pub old: usize,
-    pub old_align: usize,
-    pub new: usize,
-    pub new_align: usize,
+    pub first: Layout,
+    pub old: Layout,
+    pub new: Layout,
     pub nothing: usize,
 }
 
 fn allocate(a: &Sound, n: &Numbers) -> Answered<usize>
     ensures { Keeps (lent_of a.now.lent) result.change }
 {
-    allocate_placed(a, n.size, n.align)
+    allocate_placed(a, n.first)
 }
 
 fn allocate_with_token(a: &Sound, n: &Numbers) -> Answered<(usize, Token)>
     ensures { Keeps (lent_of a.now.lent) result.change }
 {
-    let got = allocate_with_token_placed(a, n.size, n.align);
+    let got = allocate_with_token_placed(a, n.first);
     Answered {
         answer: got.answer.map(|at| (at, got.token)),
         change: got.change,
     }
 }
 
+// The block of a first call as a second one names it.
+fn named_block(at: usize, n: &Numbers) -> Block {
+    Block {
+        offset: at ^ n.nothing,
+        layout: n.old,
+    }
+}
+
 fn free(a: &Sound, _region: &mut [u8], at: usize, n: &Numbers) -> Answered<()>
     ensures { Keeps (lent_of a.now.lent) result.change }
 {
-    free_ended(a, at ^ n.nothing, n.old, n.old_align)
+    free_ended(a, named_block(at, n))
 }
 
 fn grow(a: &Sound, region: &mut [u8], at: usize, n: &Numbers) -> Answered<usize>
     requires { length region.old ≡ a.now.lent.head.region }
     ensures { Keeps (lent_of a.now.lent) result.change }
 {
-    grow_placed(
-        a,
-        region,
-        at ^ n.nothing,
-        n.old,
-        n.old_align,
-        n.new,
-        n.new_align,
-    )
+    grow_placed(a, region, named_block(at, n), n.new)
 }
 
 fn shrink(a: &Sound, region: &mut [u8], at: usize, n: &Numbers) -> Answered<usize>
     requires { length region.old ≡ a.now.lent.head.region }
     ensures { Keeps (lent_of a.now.lent) result.change }
 {
-    shrink_placed(
-        a,
-        region,
-        at ^ n.nothing,
-        n.old,
-        n.old_align,
-        n.new,
-        n.new_align,
-    )
+    shrink_placed(a, region, named_block(at, n), n.new)
 }
 
 fn cancel(a: &Sound, _region: &mut [u8], given: (usize, Token), n: &Numbers) -> Answered<()>
@@ -145,10 +135,7 @@ fn nothing<T: Copy>(a: &Sound, _region: &mut [u8], _given: T, _n: &Numbers) -> A
 fn free_tests(a: &Sound, _region: &mut [u8], at: usize, n: &Numbers) -> Answered<()>
     ensures { Keeps (lent_of a.now.lent) result.change }
 {
-    tested(
-        a,
-        block_answer(a, at ^ n.nothing, n.old, n.old_align).is_ok(),
-    )
+    tested(a, block_answer(a, named_block(at, n)).is_ok())
 }
 
 // Of a call in place, where the alignment stays.
@@ -157,9 +144,9 @@ fn grow_tests(a: &Sound, _region: &mut [u8], at: usize, n: &Numbers) -> Answered
 {
     tested(
         a,
-        n.old <= n.new
-            && n.new_align == n.old_align
-            && is_last_block(a, at ^ n.nothing, n.old, n.old_align),
+        n.old.size <= n.new.size
+            && n.new.align == n.old.align
+            && is_last_block(a, named_block(at, n)),
     )
 }
 
@@ -168,9 +155,9 @@ fn shrink_tests(a: &Sound, _region: &mut [u8], at: usize, n: &Numbers) -> Answer
 {
     tested(
         a,
-        n.new <= n.old
-            && n.new_align == n.old_align
-            && is_last_block(a, at ^ n.nothing, n.old, n.old_align),
+        n.new.size <= n.old.size
+            && n.new.align == n.old.align
+            && is_last_block(a, named_block(at, n)),
     )
 }
 

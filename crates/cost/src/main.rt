@@ -9,6 +9,7 @@ ghost use Rattle.std.specs.Prelude.{◌≤◌, ◌<◌};
 
 mod inner;
 
+use arena::layout::Layout;
 use arena::sound::is_sound;
 use arena::{Arena, Head};
 use inner::{Calls, Numbers};
@@ -142,12 +143,9 @@ fn main(rt: HostRuntime) -> io::Result<()> {
     }
     let mut region = [0u8; REGION];
     let numbers = [Numbers {
-        size,
-        align,
-        old: size,
-        old_align: align,
-        new,
-        new_align: align,
+        first: Layout { size, align },
+        old: Layout { size, align },
+        new: Layout { size: new, align },
         nothing: 0,
     }; MOST_TURNS];
     let found = match Work::try_from(what) {

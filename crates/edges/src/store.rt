@@ -1,6 +1,6 @@
 // An arena's record with the bytes that are lent to it, and how both are compared.
 use arena::Arena;
-use trial::row::{Plant, are_same, no_chunk};
+use trial::row::{Plant, no_chunk};
 
 pub const BYTES: usize = 16384;
 
@@ -60,6 +60,6 @@ impl Store {
 
     // The record handed back is the one handed in, number by number, and so is each byte.
     pub fn is_same(&self, other: &Store) -> bool {
-        are_same(&self.arena, &other.arena) && self.bytes == other.bytes
+        self.arena == other.arena && self.bytes == other.bytes
     }
 }

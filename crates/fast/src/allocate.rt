@@ -6,6 +6,7 @@ ghost use Rattle.host.specs.Said.{said_given};
 ghost use Rattle.fast.specs.Parts.{head_of, parts_of};
 
 use crate::parts::{lent_in, make_in_parts, sound_in};
+use arena::layout::Layout;
 use calls::allocate::allocate_fast;
 use calls::refusals::lent_answer;
 use host::Said;
@@ -24,7 +25,7 @@ fn allocate_in_full(
     ensures pointers_after { parts_of head.new starts.new sizes.new pointers.new ≡ (allocate_of (parts_of head.old starts.old sizes.old pointers.old) (head_of head.old).region size align).arena }
 {
     let sound = sound_in(head, starts, sizes, pointers);
-    let got = calls::allocate::allocate_in_full(&sound, size, align);
+    let got = calls::allocate::allocate_in_full(&sound, Layout { size, align });
     make_in_parts(head, starts, sizes, pointers, got.change);
     got.answer.into()
 }
@@ -49,7 +50,7 @@ pub extern "C" fn miravoly_sound_allocate(
     if count == 0 {
         return allocate_in_full(head, starts, sizes, pointers, size, align);
     }
-    let Some(p) = allocate_fast(&sound, size, align) else {
+    let Some(p) = allocate_fast(&sound, Layout { size, align }) else {
         return allocate_in_full(head, starts, sizes, pointers, size, align);
     };
     let last = count - 1;

@@ -7,6 +7,7 @@ ghost use Rattle.host.specs.Said.{said_given};
 ghost use Rattle.fast.specs.Parts.{head_of, parts_of};
 
 use crate::parts::{lent_in, make_in_parts, sound_in};
+use arena::layout::Layout;
 use calls::allocate::allocate_placed;
 use calls::bytes::copy_from;
 use calls::refusals::lent_answer;
@@ -28,7 +29,11 @@ pub extern "C" fn miravoly_sound_copy_in(
     ensures region_after { region.new ≡ copy_in_bytes (parts_of head.old starts.old sizes.old pointers.old) region.old source.now align }
 {
     let sound = sound_in(head, starts, sizes, pointers);
-    let got = allocate_placed(&sound, source.len(), align);
+    let layout = Layout {
+        size: source.len(),
+        align,
+    };
+    let got = allocate_placed(&sound, layout);
     make_in_parts(head, starts, sizes, pointers, got.change);
     let said = Said::from(got.answer);
     if let Ok(offset) = got.answer {

@@ -7,6 +7,7 @@ ghost use Rattle.host.specs.Said.{said_given};
 ghost use Rattle.fast.specs.Parts.{head_of, parts_of};
 
 use crate::parts::{lent_in, make_in_parts, sound_in};
+use arena::layout::Layout;
 use calls::allocate::allocate_placed;
 use calls::bytes::fill;
 use calls::refusals::lent_answer;
@@ -29,7 +30,7 @@ pub extern "C" fn miravoly_sound_fill(
     ensures region_after { region.new ≡ fill_bytes (parts_of head.old starts.old sizes.old pointers.old) region.old size align value }
 {
     let sound = sound_in(head, starts, sizes, pointers);
-    let got = allocate_placed(&sound, size, align);
+    let got = allocate_placed(&sound, Layout { size, align });
     make_in_parts(head, starts, sizes, pointers, got.change);
     let said = Said::from(got.answer);
     if let Ok(offset) = got.answer {

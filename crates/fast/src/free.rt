@@ -7,6 +7,7 @@ ghost use Rattle.fast.specs.Parts.{parts_of};
 
 use crate::parts::{lent_in, make_in_parts, sound_in};
 use arena::Refusal;
+use arena::layout::{Block, Layout};
 use arena::sound::is_sound;
 use calls::free::free_ended;
 use host::Said;
@@ -26,7 +27,8 @@ pub extern "C" fn miravoly_sound_free(
     ensures pointers_after { parts_of head.new starts.new sizes.new pointers.new ≡ (free_of (parts_of head.old starts.old sizes.old pointers.old) offset size align).arena }
 {
     let sound = sound_in(head, starts, sizes, pointers);
-    let got = free_ended(&sound, offset, size, align);
+    let layout = Layout { size, align };
+    let got = free_ended(&sound, Block { offset, layout });
     make_in_parts(head, starts, sizes, pointers, got.change);
     got.answer.into()
 }

@@ -6,6 +6,7 @@ ghost use Rattle.host.specs.Said.{said_given};
 ghost use Rattle.fast.specs.Parts.{head_of, parts_of};
 
 use crate::parts::{lent_in, make_in_parts, sound_in};
+use arena::layout::{Block, Layout};
 use calls::refusals::lent_answer;
 use host::Said;
 use reshape::grow::grow_placed;
@@ -29,7 +30,18 @@ pub extern "C" fn miravoly_sound_grow(
     ensures region_after { region.new ≡ grow_bytes (parts_of head.old starts.old sizes.old pointers.old) region.old offset old old_align new new_align }
 {
     let sound = sound_in(head, starts, sizes, pointers);
-    let got = grow_placed(&sound, region, offset, old, old_align, new, new_align);
+    let block = Block {
+        offset,
+        layout: Layout {
+            size: old,
+            align: old_align,
+        },
+    };
+    let wanted = Layout {
+        size: new,
+        align: new_align,
+    };
+    let got = grow_placed(&sound, region, block, wanted);
     make_in_parts(head, starts, sizes, pointers, got.change);
     got.answer.into()
 }

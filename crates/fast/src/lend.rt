@@ -6,6 +6,7 @@ ghost use Rattle.host.specs.Said.{said_part};
 ghost use Rattle.fast.specs.Parts.{head_of, parts_of};
 
 use crate::parts::{lent_in, sound_in};
+use arena::layout::{Block, Layout};
 use calls::refusals::{block_answer, lent_answer};
 use host::SaidPart;
 use host::lend::part_of;
@@ -24,7 +25,8 @@ pub extern "C" fn miravoly_sound_lend<'a>(
     ensures { result ≡ said_part (lend_of (parts_of head.now starts.now sizes.now pointers.now) (head_of head.now).region offset size align) offset size }
 {
     let sound = sound_in(head, starts, sizes, pointers);
-    let answer = block_answer(&sound, offset, size, align);
+    let layout = Layout { size, align };
+    let answer = block_answer(&sound, Block { offset, layout });
     part_of(answer, offset, size)
 }
 

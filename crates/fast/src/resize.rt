@@ -6,6 +6,7 @@ ghost use Rattle.host.specs.Said.{said_given};
 ghost use Rattle.fast.specs.Parts.{head_of, parts_of};
 
 use crate::parts::{lent_in, make_in_parts, sound_in};
+use arena::layout::{Block, Layout};
 use calls::refusals::lent_answer;
 use host::Said;
 use reshape::resize::resize_placed;
@@ -28,7 +29,11 @@ pub extern "C" fn miravoly_sound_resize(
     ensures region_after { region.new ≡ resize_bytes (parts_of head.old starts.old sizes.old pointers.old) region.old offset old align new }
 {
     let sound = sound_in(head, starts, sizes, pointers);
-    let got = resize_placed(&sound, region, offset, old, align, new);
+    let block = Block {
+        offset,
+        layout: Layout { size: old, align },
+    };
+    let got = resize_placed(&sound, region, block, new);
     make_in_parts(head, starts, sizes, pointers, got.change);
     got.answer.into()
 }

@@ -6,6 +6,7 @@ ghost use Rattle.host.specs.Said.{said_token};
 ghost use Rattle.fast.specs.Parts.{head_of, parts_of};
 
 use crate::parts::{lent_in, make_in_parts, sound_in};
+use arena::layout::Layout;
 use calls::Token;
 use calls::refusals::lent_answer;
 use host::SaidToken;
@@ -26,7 +27,7 @@ pub extern "C" fn miravoly_sound_allocate_with_token(
     ensures pointers_after { parts_of head.new starts.new sizes.new pointers.new ≡ (with_token_of (parts_of head.old starts.old sizes.old pointers.old) (head_of head.old).region size align).arena }
 {
     let sound = sound_in(head, starts, sizes, pointers);
-    let got = allocate_with_token_placed(&sound, size, align);
+    let got = allocate_with_token_placed(&sound, Layout { size, align });
     make_in_parts(head, starts, sizes, pointers, got.change);
     said_token(got.answer, got.token)
 }

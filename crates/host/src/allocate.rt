@@ -6,6 +6,7 @@ ghost use Rattle.host.specs.Said.{said_given};
 use crate::Said;
 use crate::change::change_in;
 use arena::Arena;
+use arena::layout::Layout;
 use calls::allocate::allocate_placed;
 use calls::refusals::lent_sound;
 
@@ -23,7 +24,7 @@ pub extern "C" fn miravoly_allocate(
         Ok(sound) => sound,
         Err(r) => return r.into(),
     };
-    let got = allocate_placed(&sound, size, align);
+    let got = allocate_placed(&sound, Layout { size, align });
     change_in(arena, got.change);
     got.answer.into()
 }

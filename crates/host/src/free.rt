@@ -5,6 +5,7 @@ ghost use Rattle.host.specs.Said.{said_of};
 
 use crate::Said;
 use crate::change::change_in;
+use arena::layout::{Block, Layout};
 use arena::{Arena, Refusal};
 use calls::free::free_ended;
 
@@ -16,7 +17,8 @@ pub extern "C" fn miravoly_free(arena: &mut Arena, offset: usize, size: usize, a
     let Some(sound) = arena.sound() else {
         return Refusal::State.into();
     };
-    let got = free_ended(&sound, offset, size, align);
+    let layout = Layout { size, align };
+    let got = free_ended(&sound, Block { offset, layout });
     change_in(arena, got.change);
     got.answer.into()
 }

@@ -6,6 +6,7 @@ ghost use Rattle.host.specs.Said.{said_given};
 use crate::Said;
 use crate::change::change_in;
 use arena::Arena;
+use arena::layout::{Block, Layout};
 use calls::bytes::fill;
 use calls::refusals::lent_sound;
 use reshape::grow::grow_placed;
@@ -28,7 +29,18 @@ pub extern "C" fn miravoly_grow(
         Ok(sound) => sound,
         Err(r) => return r.into(),
     };
-    let got = grow_placed(&sound, region, offset, old, old_align, new, new_align);
+    let block = Block {
+        offset,
+        layout: Layout {
+            size: old,
+            align: old_align,
+        },
+    };
+    let wanted = Layout {
+        size: new,
+        align: new_align,
+    };
+    let got = grow_placed(&sound, region, block, wanted);
     change_in(arena, got.change);
     got.answer.into()
 }
@@ -51,7 +63,18 @@ pub extern "C" fn miravoly_grow_zeroed(
         Ok(sound) => sound,
         Err(r) => return r.into(),
     };
-    let grown = grow_placed(&sound, region, offset, old, old_align, new, new_align);
+    let block = Block {
+        offset,
+        layout: Layout {
+            size: old,
+            align: old_align,
+        },
+    };
+    let wanted = Layout {
+        size: new,
+        align: new_align,
+    };
+    let grown = grow_placed(&sound, region, block, wanted);
     change_in(arena, grown.change);
     let said = Said::from(grown.answer);
     if let Ok(to) = grown.answer {

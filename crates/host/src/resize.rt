@@ -6,6 +6,7 @@ ghost use Rattle.host.specs.Said.{said_given};
 use crate::Said;
 use crate::change::change_in;
 use arena::Arena;
+use arena::layout::{Block, Layout};
 use calls::refusals::lent_sound;
 use reshape::resize::resize_placed;
 
@@ -26,7 +27,11 @@ pub extern "C" fn miravoly_resize(
         Ok(sound) => sound,
         Err(r) => return r.into(),
     };
-    let got = resize_placed(&sound, region, offset, old, align, new);
+    let block = Block {
+        offset,
+        layout: Layout { size: old, align },
+    };
+    let got = resize_placed(&sound, region, block, new);
     change_in(arena, got.change);
     got.answer.into()
 }

@@ -6,6 +6,7 @@ ghost use Rattle.host.specs.Said.{said_given};
 use crate::Said;
 use crate::change::change_in;
 use arena::Arena;
+use arena::layout::{Block, Layout};
 use calls::refusals::lent_sound;
 use reshape::shrink::shrink_placed;
 
@@ -27,7 +28,18 @@ pub extern "C" fn miravoly_shrink(
         Ok(sound) => sound,
         Err(r) => return r.into(),
     };
-    let got = shrink_placed(&sound, region, offset, old, old_align, new, new_align);
+    let block = Block {
+        offset,
+        layout: Layout {
+            size: old,
+            align: old_align,
+        },
+    };
+    let wanted = Layout {
+        size: new,
+        align: new_align,
+    };
+    let got = shrink_placed(&sound, region, block, wanted);
     change_in(arena, got.change);
     got.answer.into()
 }

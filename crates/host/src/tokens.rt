@@ -6,6 +6,7 @@ ghost use Rattle.host.specs.Said.{said_of, said_token};
 use crate::answers::said_token;
 use crate::change::change_in;
 use crate::{Said, SaidToken};
+use arena::layout::Layout;
 use arena::{Arena, Refusal};
 use calls::Token;
 use calls::refusals::lent_sound;
@@ -25,7 +26,7 @@ pub extern "C" fn miravoly_allocate_with_token(
         Ok(sound) => sound,
         Err(r) => return said_token(Err(r), Token::default()),
     };
-    let got = allocate_with_token_placed(&sound, size, align);
+    let got = allocate_with_token_placed(&sound, Layout { size, align });
     change_in(arena, got.change);
     said_token(got.answer, got.token)
 }

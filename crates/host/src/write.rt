@@ -7,6 +7,7 @@ ghost use Rattle.host.specs.Said.{said_given};
 use crate::Said;
 use crate::change::change_in;
 use arena::Arena;
+use arena::layout::Layout;
 use calls::allocate::allocate_placed;
 use calls::bytes::{copy_from, fill};
 use calls::refusals::lent_sound;
@@ -26,7 +27,11 @@ pub extern "C" fn miravoly_copy_in(
         Ok(sound) => sound,
         Err(r) => return r.into(),
     };
-    let got = allocate_placed(&sound, source.len(), align);
+    let layout = Layout {
+        size: source.len(),
+        align,
+    };
+    let got = allocate_placed(&sound, layout);
     change_in(arena, got.change);
     let said = Said::from(got.answer);
     if let Ok(offset) = got.answer {
@@ -51,7 +56,7 @@ pub extern "C" fn miravoly_fill(
         Ok(sound) => sound,
         Err(r) => return r.into(),
     };
-    let got = allocate_placed(&sound, size, align);
+    let got = allocate_placed(&sound, Layout { size, align });
     change_in(arena, got.change);
     let said = Said::from(got.answer);
     if let Ok(offset) = got.answer {

@@ -8,7 +8,7 @@ use arena::creation::emptied;
 use arena::{Arena, Chunk, Head};
 use std::io::Write;
 use std::{fmt, io};
-use trial::row::{NUMBERS, Plant, are_same, put_chunk};
+use trial::row::{NUMBERS, Plant, put_chunk};
 use trial::table::{each_line, read_numbers, split_before};
 
 // What a call does otherwise than the table says.
@@ -49,7 +49,7 @@ fn fault_of(call: Call, a: Arena, refused: bool, plant: Option<Plant>) -> Option
     if (asked.refusal == 1) != refused {
         return Some(Fault::Answered(asked.refusal));
     }
-    if asked.refusal == 0 || are_same(&a, &after) && bytes == pattern() {
+    if asked.refusal == 0 || a == after && bytes == pattern() {
         return None;
     }
     Some(Fault::Changed)

@@ -231,6 +231,6 @@ pub fn finish(state: State, rest: &[u8], out: &mut [u8]) -> usize
         return 0;
     };
     let ended = put_ending(out, state.stage, state.number, rest);
-    let held = held_bytes(&sound.lent);
+    let held = held_bytes(&sound);
     put_held(out, ended, held, state.arena.head.count)
 }

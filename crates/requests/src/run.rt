@@ -6,6 +6,7 @@ ghost use Rattle.requests.specs.Inner.{reply_said, request_said, ran_said};
 
 use crate::{Reply, Request};
 use arena::change::Change;
+use arena::layout::{Block, Layout};
 use arena::sound::Sound;
 use calls::allocate::allocate_placed;
 use calls::free::free_ended;
@@ -74,31 +75,61 @@ pub fn run(a: &Sound, region: &mut [u8], request: Request) -> Ran
     ensures { ran_said (lent_of a.now.lent) result region.new ≡ run_in (request_said request) (lent_of a.now.lent) region.old }
 {
     match request {
-        Request::Allocate { size, align } => { Ran::from(allocate_placed(a, size, align)) }
+        Request::Allocate { size, align } => Ran::from(allocate_placed(a, Layout { size, align })),
         Request::Free {
             offset,
             size,
             align,
-        } => Ran::from(free_ended(a, offset, size, align)),
+        } => {
+            let layout = Layout { size, align };
+            Ran::from(free_ended(a, Block { offset, layout }))
+        }
         Request::Grow {
             offset,
             old_size,
             old_align,
             new_size,
             new_align,
-        } => Ran::from(grow_placed(a, region, offset, old_size, old_align, new_size, new_align)),
+        } => {
+            let block = Block {
+                offset,
+                layout: Layout {
+                    size: old_size,
+                    align: old_align,
+                },
+            };
+            let wanted = Layout {
+                size: new_size,
+                align: new_align,
+            };
+            Ran::from(grow_placed(a, region, block, wanted))
+        }
         Request::Shrink {
             offset,
             old_size,
             old_align,
             new_size,
             new_align,
-        } => Ran::from(shrink_placed(a, region, offset, old_size, old_align, new_size, new_align)),
+        } => {
+            let block = Block {
+                offset,
+                layout: Layout {
+                    size: old_size,
+                    align: old_align,
+                },
+            };
+            let wanted = Layout {
+                size: new_size,
+                align: new_align,
+            };
+            Ran::from(shrink_placed(a, region, block, wanted))
+        }
         Request::Reset => always(Change::Kept),
         Request::SetLimit { limit } => always(Change::Limited(Some(limit))),
         Request::NoLimit => always(Change::Limited(None)),
         Request::AllocateWithToken { size, align } => Ran::from(allocate_with_token_placed(
-            a, size, align,
+            a,
+            Layout { size, align },
         )),
         Request::Cancel {
             offset,
@@ -110,6 +141,15 @@ pub fn run(a: &Sound, region: &mut [u8], request: Request) -> Ran
             old_size,
             align,
             new_size,
-        } => Ran::from(resize_placed(a, region, offset, old_size, align, new_size)),
+        } => {
+            let block = Block {
+                offset,
+                layout: Layout {
+                    size: old_size,
+                    align,
+                },
+            };
+            Ran::from(resize_placed(a, region, block, new_size))
+        }
     }
 }

@@ -8,6 +8,7 @@ ghost use Rattle.calls.specs.Inner.{AnsweredBy, Tested};
 
 use crate::grow::grown_block;
 use crate::shrink::shrunk_block;
+use arena::layout::{Block, Layout};
 use arena::sound::Sound;
 use arena::{Arena, Outcome};
 use calls::Answered;
@@ -16,45 +17,47 @@ use calls::bytes::carry;
 use calls::refusals::{change_answer, lent_sound};
 
 // Where the block of a size above 0 stands; no byte is carried yet.
-fn resized_block(a: &Sound, offset: usize, old: usize, align: usize, new: usize) -> Answered<usize>
-    requires tested { Tested (lent_of a.now.lent) new align }
-    requires nonzero { (0 < old) × (offset + old ≤ a.now.lent.head.region) }
-    ensures { AnsweredBy (λ r. given None r (resize_in r.head (held_of r) offset old align new)) (lent_of a.now.lent) result }
+fn resized_block(a: &Sound, block: Block, new: usize) -> Answered<usize>
+    requires tested { Tested (lent_of a.now.lent) new block.layout.align }
+    requires nonzero { (0 < block.layout.size) × (block.offset + block.layout.size ≤ a.now.lent.head.region) }
+    ensures { AnsweredBy (λ r. given None r (resize_in r.head (held_of r) block.offset block.layout.size block.layout.align new)) (lent_of a.now.lent) result }
 {
-    if new <= old {
-        return shrunk_block(a, offset, old, align, new, align);
+    let wanted = Layout {
+        size: new,
+        ..block.layout
+    };
+    if new <= block.layout.size {
+        return shrunk_block(a, block, wanted);
     }
-    grown_block(a, offset, old, align, new, align)
+    grown_block(a, block, wanted)
 }
 
 // In the record's own region. A size of 0 names no block: its offset is not tested.
 // As grow's, by resize's own definition.
-pub fn resize_placed(
-    a: &Sound,
-    region: &mut [u8],
-    offset: usize,
-    old: usize,
-    align: usize,
-    new: usize,
-) -> Answered<usize>
+pub fn resize_placed(a: &Sound, region: &mut [u8], block: Block, new: usize) -> Answered<usize>
     requires { length region.old ≡ a.now.lent.head.region }
-    ensures placed_by { AnsweredBy (λ r. resize_of r (length region.old) offset old align new) (lent_of a.now.lent) result }
-    ensures region_after { region.new ≡ resize_bytes (lent_of a.now.lent) region.old offset old align new }
+    ensures placed_by { AnsweredBy (λ r. resize_of r (length region.old) block.offset block.layout.size block.layout.align new) (lent_of a.now.lent) result }
+    ensures region_after { region.new ≡ resize_bytes (lent_of a.now.lent) region.old block.offset block.layout.size block.layout.align new }
 {
-    if old == 0 {
-        return allocate_in_full(a, new, align);
+    let wanted = Layout {
+        size: new,
+        ..block.layout
+    };
+    if block.layout.size == 0 {
+        return allocate_in_full(a, wanted);
     }
-    if let Err(r) = change_answer(a, offset, old, align, new, align, false) {
+    if let Err(r) = change_answer(a, block, wanted, false) {
         return Answered::refused(r);
     }
-    let got = resized_block(a, offset, old, align, new);
+    let got = resized_block(a, block, new);
     let Ok(to) = got.answer else {
         return got;
     };
-    carry(region, offset, to, old.min(new));
+    carry(region, block.offset, to, block.layout.size.min(new));
     got
 }
 
+// The frame and the arguments as allocate's.
 pub fn resize(
     a: Arena,
     region: &mut [u8],
@@ -70,7 +73,11 @@ pub fn resize(
         Ok(sound) => sound,
         Err(r) => return Outcome::refused(a, r),
     };
-    let got = resize_placed(&sound, region, offset, old, align, new);
+    let block = Block {
+        offset,
+        layout: Layout { size: old, align },
+    };
+    let got = resize_placed(&sound, region, block, new);
     Outcome {
         answer: got.answer,
         arena: a.changed(got.change),

@@ -8,6 +8,7 @@ ghost use Rattle.calls.specs.Shrink.{shrunk_in_place, shrink_in, shrink_of, shri
 ghost use Rattle.calls.specs.Inner.{FastBy, AnsweredBy, ShrinkTested};
 
 use arena::change::Change;
+use arena::layout::{Block, Layout};
 use arena::sound::Sound;
 use arena::{Arena, Outcome};
 use calls::Answered;
@@ -48,102 +49,79 @@ fn shrunk_in_place(a: &Sound, offset: usize, old: usize, d: usize) -> Answered<u
 }
 
 // Where the shrunk block stands; no byte is carried yet.
-pub fn shrunk_block(
-    a: &Sound,
-    offset: usize,
-    old: usize,
-    old_align: usize,
-    new: usize,
-    new_align: usize,
-) -> Answered<usize>
-    requires { ShrinkTested (lent_of a.now.lent) offset old new new_align }
-    ensures { AnsweredBy (λ r. given None r (shrink_in r.head (held_of r) offset old old_align new new_align)) (lent_of a.now.lent) result }
+pub fn shrunk_block(a: &Sound, block: Block, new: Layout) -> Answered<usize>
+    requires { ShrinkTested (lent_of a.now.lent) block.offset block.layout.size new.size new.align }
+    ensures { AnsweredBy (λ r. given None r (shrink_in r.head (held_of r) block.offset block.layout.size block.layout.align new.size new.align)) (lent_of a.now.lent) result }
 {
-    if new_align <= old_align {
-        let d = rounding::down_to_power(old - new, new_align.max(a.lent.head.minimum));
-        return shrunk_in_place(a, offset, old, d);
+    if new.align <= block.layout.align {
+        let d = rounding::down_to_power(
+            block.layout.size - new.size,
+            new.align.max(a.lent.head.minimum),
+        );
+        return shrunk_in_place(a, block.offset, block.layout.size, d);
     }
-    if rounding::is_multiple_of_power(offset, new_align) {
-        return stay(offset);
+    if rounding::is_multiple_of_power(block.offset, new.align) {
+        return stay(block.offset);
     }
-    allocate_in_full(a, new, new_align)
+    allocate_in_full(a, new)
 }
 
 // Every test and every way to serve, in the record's own region.
 // As grow's, by shrink's own definition.
-fn shrink_in_full(
-    a: &Sound,
-    region: &mut [u8],
-    offset: usize,
-    old: usize,
-    old_align: usize,
-    new: usize,
-    new_align: usize,
-) -> Answered<usize>
+fn shrink_in_full(a: &Sound, region: &mut [u8], block: Block, new: Layout) -> Answered<usize>
     requires { length region.old ≡ a.now.lent.head.region }
-    ensures placed_by { AnsweredBy (λ r. shrink_of r (length region.old) offset old old_align new new_align) (lent_of a.now.lent) result }
-    ensures region_after { region.new ≡ shrink_bytes (lent_of a.now.lent) region.old offset old old_align new new_align }
+    ensures placed_by { AnsweredBy (λ r. shrink_of r (length region.old) block.offset block.layout.size block.layout.align new.size new.align) (lent_of a.now.lent) result }
+    ensures region_after { region.new ≡ shrink_bytes (lent_of a.now.lent) region.old block.offset block.layout.size block.layout.align new.size new.align }
 {
-    if let Err(r) = change_answer(a, offset, old, old_align, new, new_align, old < new) {
+    if let Err(r) = change_answer(a, block, new, block.layout.size < new.size) {
         return Answered::refused(r);
     }
-    let got = shrunk_block(a, offset, old, old_align, new, new_align);
+    let got = shrunk_block(a, block, new);
     let Ok(to) = got.answer else {
         return got;
     };
-    carry(region, offset, to, new);
+    carry(region, block.offset, to, new.size);
     got
 }
 
 // Upwards in place, where nothing refuses and the alignment stays.
-fn shrink_fast(
-    a: &Sound,
-    offset: usize,
-    old: usize,
-    old_align: usize,
-    new: usize,
-    new_align: usize,
-) -> Option<usize>
-    ensures { FastBy (λ r. shrink_of r r.head.region offset old old_align new new_align) (lent_of a.now.lent) result }
+fn shrink_fast(a: &Sound, block: Block, new: Layout) -> Option<usize>
+    ensures { FastBy (λ r. shrink_of r r.head.region block.offset block.layout.size block.layout.align new.size new.align) (lent_of a.now.lent) result }
 {
-    if old < new {
+    if block.layout.size < new.size {
         return None;
     }
-    if new_align != old_align {
+    if new.align != block.layout.align {
         return None;
     }
-    if !is_last_block(a, offset, old, old_align) {
+    if !is_last_block(a, block) {
         return None;
     }
-    let d = rounding::down_to_power(old - new, new_align.max(a.lent.head.minimum));
-    if d + d < old {
+    let d = rounding::down_to_power(
+        block.layout.size - new.size,
+        new.align.max(a.lent.head.minimum),
+    );
+    if d + d < block.layout.size {
         return None;
     }
-    Some(offset + d)
+    Some(block.offset + d)
 }
 
 // The same as in full, but short, as allocate's is.
-pub fn shrink_placed(
-    a: &Sound,
-    region: &mut [u8],
-    offset: usize,
-    old: usize,
-    old_align: usize,
-    new: usize,
-    new_align: usize,
-) -> Answered<usize>
+pub fn shrink_placed(a: &Sound, region: &mut [u8], block: Block, new: Layout) -> Answered<usize>
     requires { length region.old ≡ a.now.lent.head.region }
-    ensures placed_by { AnsweredBy (λ r. shrink_of r (length region.old) offset old old_align new new_align) (lent_of a.now.lent) result }
-    ensures region_after { region.new ≡ shrink_bytes (lent_of a.now.lent) region.old offset old old_align new new_align }
+    ensures placed_by { AnsweredBy (λ r. shrink_of r (length region.old) block.offset block.layout.size block.layout.align new.size new.align) (lent_of a.now.lent) result }
+    ensures region_after { region.new ≡ shrink_bytes (lent_of a.now.lent) region.old block.offset block.layout.size block.layout.align new.size new.align }
 {
-    let Some(p) = shrink_fast(a, offset, old, old_align, new, new_align) else {
+    let Some(p) = shrink_fast(a, block, new) else {
         let copy = *a;
-        return shrink_in_full(&copy, region, offset, old, old_align, new, new_align);
+        return shrink_in_full(&copy, region, block, new);
     };
-    carry(region, offset, p, new);
+    carry(region, block.offset, p, new.size);
     Answered::moved(p)
 }
 
+// The frame and the arguments as allocate's.
 pub fn shrink(
     a: Arena,
     region: &mut [u8],
@@ -160,7 +138,18 @@ pub fn shrink(
         Ok(sound) => sound,
         Err(r) => return Outcome::refused(a, r),
     };
-    let got = shrink_placed(&sound, region, offset, old, old_align, new, new_align);
+    let block = Block {
+        offset,
+        layout: Layout {
+            size: old,
+            align: old_align,
+        },
+    };
+    let wanted = Layout {
+        size: new,
+        align: new_align,
+    };
+    let got = shrink_placed(&sound, region, block, wanted);
     Outcome {
         answer: got.answer,
         arena: a.changed(got.change),

@@ -2,11 +2,10 @@
 // stdout has its lines with the answers, as they follow from document 01.
 #![tactic(auto)]
 
-ghost use Rattle.std.specs.Prelude.{◌≡◌, ◌≤◌, true};
-ghost use Rattle.arena.specs.Numbers.{most};
-ghost use Rattle.arena.specs.Sound.{allowed_align};
+ghost use Rattle.std.specs.Prelude.{◌≡◌, IfSome};
 
 use arena::ladder::{climb, held_bytes, take_rung};
+use arena::layout::{Allowed, Layout};
 use arena::placing::lowest_place;
 use arena::sizing::usable_size;
 use arena::sound::is_allowed_align;
@@ -37,43 +36,43 @@ impl fmt::Display for Said {
     }
 }
 
-fn is_request(size: usize, align: usize) -> bool
-    ensures { (result ≡ true) → (size ≤ most) × (allowed_align align ≡ true) }
+fn allowed(layout: Layout) -> Option<Allowed>
+    ensures { IfSome result (λ request. request.layout ≡ layout) }
 {
-    size <= Arena::MOST && is_allowed_align(align)
+    if Arena::MOST < layout.size {
+        return None;
+    }
+    if !is_allowed_align(layout.align) {
+        return None;
+    }
+    Some(Allowed { layout })
 }
 
 // A rule isn't asked where the record is unsound or the request isn't allowed.
-fn ask_usable(base: usize, size: usize, align: usize) -> Option<Said> {
+fn ask_usable(base: usize, layout: Layout) -> Option<Said> {
     if Arena::MOST < base {
         return None;
     }
-    if !is_request(size, align) {
-        return None;
-    }
-    Some(Said::Usable(usable_size(base, size, align)))
+    let request = allowed(layout)?;
+    Some(Said::Usable(usable_size(base, request)))
 }
 
 // One rung, whether the ladder comes to it or not.
-fn ask_rung(a: Arena, base: usize, size: usize, align: usize) -> Option<Said> {
+fn ask_rung(a: Arena, base: usize, layout: Layout) -> Option<Said> {
     let sound = a.sound()?;
     if Arena::MOST < base {
         return None;
     }
-    if !is_request(size, align) {
-        return None;
-    }
-    let held = held_bytes(&sound.lent);
-    let got = take_rung(&sound.lent, held, size, align, base);
-    Some(Said::Rung(got.ok_or(usable_size(base, size, align))))
+    let request = allowed(layout)?;
+    let held = held_bytes(&sound);
+    let got = take_rung(&sound, held, request, base);
+    Some(Said::Rung(got.ok_or(usable_size(base, request))))
 }
 
-fn ask_ladder(a: Arena, size: usize, align: usize) -> Option<Said> {
+fn ask_ladder(a: Arena, layout: Layout) -> Option<Said> {
     let sound = a.sound()?;
-    if !is_request(size, align) {
-        return None;
-    }
-    Some(Said::Ladder(climb(&sound.lent, size, align)))
+    let request = allowed(layout)?;
+    Some(Said::Ladder(climb(&sound, request)))
 }
 
 fn ask_place(a: Arena, n: usize, multiple: usize) -> Option<Said> {
@@ -87,7 +86,7 @@ fn ask_place(a: Arena, n: usize, multiple: usize) -> Option<Said> {
     if Arena::LARGEST_ALIGN < multiple {
         return None;
     }
-    Some(Said::Place(lowest_place(&sound.lent, multiple, n)))
+    Some(Said::Place(lowest_place(&sound, multiple, n)))
 }
 
 // No Display: where no rule was asked there is no value.
@@ -128,10 +127,10 @@ fn record_of(text: &[u8]) -> Arena {
 fn show_question<W: Write>(out: &mut W, a: Arena, question: &[u8]) -> io::Result<()> {
     let [x, y, z] = first_numbers::<3>(question);
     if question.starts_with(b": rung ") {
-        return show_said(out, ask_rung(a, x, y, z));
+        return show_said(out, ask_rung(a, x, Layout { size: y, align: z }));
     }
     if question.starts_with(b": ladder ") {
-        return show_said(out, ask_ladder(a, x, y));
+        return show_said(out, ask_ladder(a, Layout { size: x, align: y }));
     }
     if question.starts_with(b": place ") {
         return show_said(out, ask_place(a, x, y));
@@ -144,7 +143,7 @@ fn run_line<W: Write>(out: &mut W, line: &[u8]) -> io::Result<()> {
     if line.starts_with(b"usable ") {
         out.write_all(line)?;
         let [base, size, align] = first_numbers::<3>(line);
-        return show_said(out, ask_usable(base, size, align));
+        return show_said(out, ask_usable(base, Layout { size, align }));
     }
     if line.starts_with(b"region ") {
         out.write_all(line)?;

@@ -7,6 +7,7 @@ ghost use Rattle.calls.specs.Token.{token_for, token_given, with_token_of, bad_t
 ghost use Rattle.calls.specs.Inner.{with_token, TokenPlacedBy, AnsweredBy, ChangedBy};
 
 use arena::change::Change;
+use arena::layout::Layout;
 use arena::sound::Sound;
 use arena::{Arena, Outcome, Refusal};
 use calls::allocate::allocate_placed;
@@ -37,11 +38,11 @@ fn token_given(answer: Result<usize, Refusal>, token: Token) -> Token
 }
 
 // In the record's own region.
-pub fn allocate_with_token_placed(a: &Sound, size: usize, align: usize) -> TokenPlaced
-    ensures { TokenPlacedBy (λ r. with_token_of r r.head.region size align) (lent_of a.now.lent) result }
+pub fn allocate_with_token_placed(a: &Sound, layout: Layout) -> TokenPlaced
+    ensures { TokenPlacedBy (λ r. with_token_of r r.head.region layout.size layout.align) (lent_of a.now.lent) result }
 {
     let before = token_for(a);
-    let got = allocate_placed(a, size, align);
+    let got = allocate_placed(a, layout);
     TokenPlaced {
         answer: got.answer,
         token: token_given(got.answer, before),
@@ -49,6 +50,7 @@ pub fn allocate_with_token_placed(a: &Sound, size: usize, align: usize) -> Token
     }
 }
 
+// The frame and the arguments as allocate's.
 pub fn allocate_with_token(a: Arena, region: &[u8], size: usize, align: usize) -> TokenAllocation
     ensures { result ≡ with_token_of a (length region.now) size align }
 {
@@ -62,7 +64,7 @@ pub fn allocate_with_token(a: Arena, region: &[u8], size: usize, align: usize) -
             };
         }
     };
-    let got = allocate_with_token_placed(&sound, size, align);
+    let got = allocate_with_token_placed(&sound, Layout { size, align });
     TokenAllocation {
         answer: got.answer,
         token: got.token,
@@ -124,6 +126,7 @@ pub fn cancel_ended(a: &Sound, offset: usize, token: Token) -> Answered<()>
     }
 }
 
+// The frame as free's, and document 01's own arguments.
 pub fn cancel(a: Arena, offset: usize, token: Token) -> Outcome<()>
     ensures { result ≡ cancel_of a offset token }
 {

@@ -1,6 +1,6 @@
 // The record as a row of 101 numbers: region, minimum, limited, limit and count, and then the columns of starts, sizes and pointers. And changes that are planted in
 // a record or in bytes after a call, to see that each is seen.
-ghost use Rattle.std.specs.Prelude.{◌≡◌, ◌≤◌, ◌↔◌, ◌-◌, ℕ, [], IfSome, IsTrue, None, slice_index};
+ghost use Rattle.std.specs.Prelude.{◌≡◌, ◌≤◌, ◌-◌, ℕ, [], IfSome, None, slice_index};
 ghost use Rattle.arena.specs.Record.{holding};
 ghost use Rattle.arena.specs.Creation.{fresh_head};
 ghost use Rattle.trial.specs.declared.row.Plant.TheVariants.{Number, Byte};
@@ -47,19 +47,6 @@ pub fn put_chunk(a: &mut Arena, place: usize, c: Chunk)
         a.sizes[place] = c.size;
         a.pointers[place] = c.pointer;
     }
-}
-
-pub fn are_same(a: &Arena, b: &Arena) -> bool
-    ensures { IsTrue result ↔ (a.now ≡ b.now) }
-{
-    a.head.region == b.head.region
-        && a.head.minimum == b.head.minimum
-        && a.head.limited == b.head.limited
-        && a.head.limit == b.head.limit
-        && a.head.count == b.head.count
-        && a.starts == b.starts
-        && a.sizes == b.sizes
-        && a.pointers == b.pointers
 }
 
 // The pointer of the chunk that was taken last. None with no chunk, and with more than the table has places for.

@@ -31,8 +31,8 @@ impl<R: Read> Read for Retrying<R> {
     }
 }
 
-// Reads until the bytes are full or the input ends, and answers how many were read. The library's read_exact fails where the input ends. Where a read fails, the reader has lost what earlier reads took; the bytes may
-// be any, and are as many.
+// Reads until the bytes are full or the input ends, and answers how many were read. The library's read_exact fails where the input ends. Where a read fails,
+// the reader has lost what earlier reads took; the bytes may be any, and are as many.
 // By hand, since a reader may give fewer bytes than there is room for, and how many is what the contract says.
 pub fn read_full<R: Read>(input: &mut R, bytes: &mut [u8]) -> io::Result<usize>
     ensures bound { ReadsAtMost result bytes.new }

@@ -1,16 +1,15 @@
 -- `arena::Arena::with_min_align_and_capacity` meets its contract: each way out is one clause of the definition. Assumes nothing.
-use Prim.Native.Nat.{ℕ, ◌≤◌, zero-le}
+use Prim.Native.Nat.{ℕ, ◌≤◌}
 use native.Mathlib.Omega.{arith}
 use mathlib.Core.Bool.{true}
 use mathlib.Core.List.{[]}
-use mathlib.Core.Path.{◌≡◌, refl, sym, subst, ◌∙◌, ap}
+use mathlib.Core.Path.{◌≡◌, refl, sym, ◌∙◌, ap}
 use Rattle.rounding.proofs.Tests.{taken_false, left-true}
 use Rattle.std.specs.Prelude.{Option, Ok}
 use Rattle.arena.specs.Numbers.{most}
 use Rattle.arena.specs.Record.{chunks_of, held_of, holding}
-use Rattle.arena.specs.Sound.{allowed_minimum, limit_formed}
+use Rattle.arena.specs.Sound.{allowed_minimum, limit_formed, sound_of}
 use Rattle.arena.specs.Ladder.{held_bytes, rung_chunk}
-use Rattle.arena.specs.Inner.{Ready}
 use Rattle.arena.specs.declared.Arena.{Arena}
 use Rattle.arena.specs.declared.Chunk.{Chunk}
 use Rattle.arena.specs.declared.Head.{Head}
@@ -47,17 +46,30 @@ returns-then-capacity-eq0 c =
     (λ i. record { answer = Ok tt; arena = c.emptied-fresh.ensures i })
     ∙ sym (made-empty _ _ _ region_bound capacity-bound minimum-allowed c.if-capacity-eq0.true)
 
+pub invariant_of-sound : goal.invariant_of-sound
+unfolding limit_formed
+invariant_of-sound c =
+    let region_bound : c.args.region ≤ most = c.if-region-gt-MOST.false in
+    let minimum-allowed : allowed_minimum c.args.minimum ≡ true = left-true c.is_allowed_minimum.ensures c.if-not-is_allowed_minimum.false in
+    let minimum = minimum-open _ minimum-allowed in
+    let fresh : Settings (fresh_head c.args.region c.args.minimum) =
+    record { minimum-power = minimum.power; minimum-bound = minimum.bound; region_bound = region_bound; limit-formed = refl } in
+    record { sound = ap sound_of c.lent.ensures ∙ emptied-sound fresh c.emptied-fresh.ensures; }
+
+pub invariant_of-request : goal.invariant_of-request
+invariant_of-request c =
+    let minimum = minimum-open _ (left-true c.is_allowed_minimum.ensures c.if-not-is_allowed_minimum.false) in
+    record {
+      size = c.if-capacity-gt-MOST.false;
+      align = align-shut (record { power = minimum.power; bound = omega (arith, minimum.bound) });
+    }
+
 pub take_rung-got-requires : goal.take_rung-got-requires
 unfolding holding chunks_of held_bytes
 take_rung-got-requires c =
-    let region_bound : c.args.region ≤ most = c.if-region-gt-MOST.false in
-    let capacity-bound : c.args.capacity ≤ most = c.if-capacity-gt-MOST.false in
-    let minimum-allowed : allowed_minimum c.args.minimum ≡ true = left-true c.is_allowed_minimum.ensures c.if-not-is_allowed_minimum.false in
-    let fresh = c.lent.ensures ∙ c.emptied-fresh.ensures in
-    let minimum = minimum-open _ minimum-allowed in record {
-      ready = subst (λ (a : Arena). Ready a.head (held_of a)) (sym fresh) (record { region_bound = region_bound; count_bound = zero-le; inside = tt });
-      size_le_most = (capacity-bound, align-shut (record { power = minimum.power; bound = omega (arith, minimum.bound) }), omega arith);
-      held_value = sym (ap (λ (a : Arena). held_bytes (held_of a)) fresh);
+    record {
+      base_bound = omega arith;
+      held_value = sym (ap (λ (a : Arena). held_bytes (held_of a)) (c.lent.ensures ∙ c.emptied-fresh.ensures));
     }
 
 pub returns-in_default : goal.returns-in_default

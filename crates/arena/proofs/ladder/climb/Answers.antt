@@ -7,49 +7,43 @@ use mathlib.Core.Path.{◌≡◌, sym, ◌∙◌, ap}
 use Rattle.arena.specs.Ladder.{held_bytes, tried, first_base}
 use Rattle.arena.specs.Inner.{lent_of}
 use Rattle.arena.proofs.Rungs.{climb-starts, climb-bound, climb-served, climb-out, climb-ends, climb-on, first-base-bound}
+use Rattle.arena.proofs.Soundness.{lent-ready}
 use Rattle.arena.proofs.ladder.climb.Goals as goal
 use Rattle.arena.specs.Record.{held_of}
 
-pub held_bytes-held-requires : goal.held_bytes-held-requires
-held_bytes-held-requires c = c.requires.ready
-
-pub first_base-base-requires : goal.first_base-base-requires
-first_base-base-requires c = c.requires.ready
-
-pub loop-h-init : goal.loop-h-init
-loop-h-init c =
-    rw c.first_base-base.ensures (climb-starts c.args.a.now.head (held_of (lent_of c.args.a.now)) c.args.size c.args.align)
+pub loop-request-init : goal.loop-request-init
+loop-request-init c =
+    rw c.first_base-base.ensures (climb-starts c.args.a.now.lent.head (held_of (lent_of c.args.a.now.lent)) c.args.request.layout.size c.args.request.layout.align)
 
 pub take_rung-requires : goal.take_rung-requires
 take_rung-requires c =
-    let first-bound : (first_base (held_of (lent_of c.args.a.now)) c.args.size ≤ 2 ^ 31) = first-base-bound _ c.requires.ready.inside c.requires.ready.region_bound c.requires.size_le_most.0 in
+    let first-bound : (first_base (held_of (lent_of c.args.a.now.lent)) c.args.request.layout.size ≤ 2 ^ 31) = first-base-bound _ (lent-ready c.args.a.now.lent c.args.a.now.sound).inside (lent-ready c.args.a.now.lent c.args.a.now.sound).region_bound c.args.request.size in
     record {
-      ready = c.requires.ready;
-      size_le_most = (c.requires.size_le_most.0, c.requires.size_le_most.1, le_trans (climb-bound _ _ _ _ c.loop-h.invariant) first-bound);
+      base_bound = le_trans (climb-bound _ _ _ _ c.loop-request.invariant) first-bound;
       held_value = c.held_bytes-held.ensures;
     }
 
 pub returns-in-Some : goal.returns-in-Some
 returns-in-Some c =
-    let tested : (c.is_tried.result ≡ tried c.args.a.now.head (held_bytes (held_of (lent_of c.args.a.now))) c.args.size c.loop-h.base) = c.is_tried.ensures ∙ ap (λ (held : ℕ). tried c.args.a.now.head held c.args.size c.loop-h.base) c.held_bytes-held.ensures in
-    sym (climb-served _ _ _ _ c.loop-h.invariant (sym tested ∙ c.loop-h-test.true) (sym c.take_rung.ensures ∙ c.in-Some.is))
+    let tested : (c.is_tried.result ≡ tried c.args.a.now.lent.head (held_bytes (held_of (lent_of c.args.a.now.lent))) c.args.request.layout.size c.loop-request.base) = c.is_tried.ensures ∙ ap (λ (held : ℕ). tried c.args.a.now.lent.head held c.args.request.layout.size c.loop-request.base) c.held_bytes-held.ensures in
+    sym (climb-served _ _ _ _ c.loop-request.invariant (sym tested ∙ c.loop-request-test.true) (sym c.take_rung.ensures ∙ c.in-Some.is))
 
 pub returns-then-base-eq0 : goal.returns-then-base-eq0
 returns-then-base-eq0 c =
-    let tested : (c.is_tried.result ≡ tried c.args.a.now.head (held_bytes (held_of (lent_of c.args.a.now))) c.args.size c.loop-h.base) = c.is_tried.ensures ∙ ap (λ (held : ℕ). tried c.args.a.now.head held c.args.size c.loop-h.base) c.held_bytes-held.ensures in
-    sym (climb-ends _ _ _ _ c.loop-h.invariant c.if-base-eq0.true (sym tested ∙ c.loop-h-test.true) (sym c.take_rung.ensures ∙ c.in_default.is))
+    let tested : (c.is_tried.result ≡ tried c.args.a.now.lent.head (held_bytes (held_of (lent_of c.args.a.now.lent))) c.args.request.layout.size c.loop-request.base) = c.is_tried.ensures ∙ ap (λ (held : ℕ). tried c.args.a.now.lent.head held c.args.request.layout.size c.loop-request.base) c.held_bytes-held.ensures in
+    sym (climb-ends _ _ _ _ c.loop-request.invariant c.if-base-eq0.true (sym tested ∙ c.loop-request-test.true) (sym c.take_rung.ensures ∙ c.in_default.is))
 
-pub loop-h-smaller : goal.loop-h-smaller
-loop-h-smaller c = omega (arith, c.if-base-eq0.false)
+pub loop-request-smaller : goal.loop-request-smaller
+loop-request-smaller c = omega (arith, c.if-base-eq0.false)
 
-pub loop-h-preserved : goal.loop-h-preserved
-loop-h-preserved c =
-    let tested : (c.is_tried.result ≡ tried c.args.a.now.head (held_bytes (held_of (lent_of c.args.a.now))) c.args.size c.loop-h.base) = c.is_tried.ensures ∙ ap (λ (held : ℕ). tried c.args.a.now.head held c.args.size c.loop-h.base) c.held_bytes-held.ensures in
-    let first-bound : (first_base (held_of (lent_of c.args.a.now)) c.args.size ≤ 2 ^ 31) = first-base-bound _ c.requires.ready.inside c.requires.ready.region_bound c.requires.size_le_most.0 in
-    climb-on _ _ _ _ c.loop-h.invariant (omega (arith, first-bound)) c.if-base-eq0.false (sym tested ∙ c.loop-h-test.true)
+pub loop-request-preserved : goal.loop-request-preserved
+loop-request-preserved c =
+    let tested : (c.is_tried.result ≡ tried c.args.a.now.lent.head (held_bytes (held_of (lent_of c.args.a.now.lent))) c.args.request.layout.size c.loop-request.base) = c.is_tried.ensures ∙ ap (λ (held : ℕ). tried c.args.a.now.lent.head held c.args.request.layout.size c.loop-request.base) c.held_bytes-held.ensures in
+    let first-bound : (first_base (held_of (lent_of c.args.a.now.lent)) c.args.request.layout.size ≤ 2 ^ 31) = first-base-bound _ (lent-ready c.args.a.now.lent c.args.a.now.sound).inside (lent-ready c.args.a.now.lent c.args.a.now.sound).region_bound c.args.request.size in
+    climb-on _ _ _ _ c.loop-request.invariant (omega (arith, first-bound)) c.if-base-eq0.false (sym tested ∙ c.loop-request-test.true)
     (sym c.take_rung.ensures ∙ c.in_default.is)
 
 pub returns : goal.returns
 returns c =
-    let tested : (c.is_tried.result ≡ tried c.args.a.now.head (held_bytes (held_of (lent_of c.args.a.now))) c.args.size c.loop-h.base) = c.is_tried.ensures ∙ ap (λ (held : ℕ). tried c.args.a.now.head held c.args.size c.loop-h.base) c.held_bytes-held.ensures in
-    sym (climb-out _ _ _ _ c.loop-h.invariant (sym tested ∙ c.loop-h-test.false))
+    let tested : (c.is_tried.result ≡ tried c.args.a.now.lent.head (held_bytes (held_of (lent_of c.args.a.now.lent))) c.args.request.layout.size c.loop-request.base) = c.is_tried.ensures ∙ ap (λ (held : ℕ). tried c.args.a.now.lent.head held c.args.request.layout.size c.loop-request.base) c.held_bytes-held.ensures in
+    sym (climb-out _ _ _ _ c.loop-request.invariant (sym tested ∙ c.loop-request-test.false))

@@ -4,8 +4,8 @@ use Rattle.arena.specs.Record.{chunks_of}
 use Rattle.arena.proofs.Rungs.{Climbed}
 use Rattle.arena.proofs.ladder.climb.Given as goal
 
-abbrev pub invariant-loop-h : goal.invariant-loop-h
-invariant-loop-h l = Climbed l.a.head (chunks_of l.a.starts.now l.a.sizes.now l.a.pointers.now l.a.head.count) l.size l.align l.base
+abbrev pub invariant-loop-request : goal.invariant-loop-request
+invariant-loop-request l = Climbed l.a.lent.head (chunks_of l.a.lent.starts.now l.a.lent.sizes.now l.a.lent.pointers.now l.a.lent.head.count) l.request.layout.size l.request.layout.align l.base
 
-abbrev pub decreases-loop-h : goal.decreases-loop-h
-decreases-loop-h l = l.base
+abbrev pub decreases-loop-request : goal.decreases-loop-request
+decreases-loop-request l = l.base

@@ -8,7 +8,7 @@ use Rattle.arena.proofs.ladder.held_bytes.Given as goal
 
 abbrev pub invariant-loop-i : goal.invariant-loop-i
 invariant-loop-i l =
-    (l.i ≤ l.count) × (l.held ≡ held_bytes (chunks_of l.a.starts.now l.a.sizes.now l.a.pointers.now l.i)) × (l.held ≤ l.i * most)
+    (l.i ≤ l.count) × (l.held ≡ held_bytes (chunks_of l.a.lent.starts.now l.a.lent.sizes.now l.a.lent.pointers.now l.i)) × (l.held ≤ l.i * most)
 
 abbrev pub decreases-loop-i : goal.decreases-loop-i
 decreases-loop-i l = l.count - l.i

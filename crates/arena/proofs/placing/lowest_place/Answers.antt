@@ -49,21 +49,18 @@ module _ (region : ℕ) (cs : List Chunk) (n : ℕ) {align at : ℕ} (below : No
   nowhere positive l = sym (none-lowest region cs n positive (λ x d f. below x d (omega (arith, f.inside)) f))
 
 pub returns-then-region-length : goal.returns-then-region-length
-returns-then-region-length c = nowhere _ _ _ {at = 0} (λ x d l f. not-suc-le-zero l) c.requires.align_nonzero.0 (omega arith)
+returns-then-region-length c = nowhere _ _ _ {at = 0} (λ x d l f. not-suc-le-zero l) c.requires.0 (omega arith)
 
 pub loop-at-init : goal.loop-at-init
 loop-at-init c = (dvd-zero c.args.align, λ x d l f. not-suc-le-zero l)
 
 pub past_chunks-next-requires : goal.past_chunks-next-requires
-past_chunks-next-requires c = record {
-  ready = c.requires.ready;
-  align_nonzero = (c.requires.align_nonzero.0, c.requires.align_nonzero.1, c.loop-at.invariant.0, omega arith, omega arith);
-}
+past_chunks-next-requires c = (c.requires.0, c.requires.1, c.loop-at.invariant.0, omega arith, omega arith)
 
 pub returns-then-next-at : goal.returns-then-next-at
 returns-then-next-at c =
     let clear = c.past_chunks-next.ensures.stays c.if-next-at.true in
-    found _ _ _ c.loop-at.invariant.1 c.requires.align_nonzero.0 c.loop-at.invariant.0 (omega arith) clear
+    found _ _ _ c.loop-at.invariant.1 c.requires.0 c.loop-at.invariant.0 (omega arith) clear
 
 pub loop-at-preserved : goal.loop-at-preserved
 loop-at-preserved c =
@@ -71,4 +68,4 @@ loop-at-preserved c =
     (next.multiple, passed _ _ _ c.loop-at.invariant.1 next)
 
 pub returns : goal.returns
-returns c = nowhere _ _ _ c.loop-at.invariant.1 c.requires.align_nonzero.0 (omega arith)
+returns c = nowhere _ _ _ c.loop-at.invariant.1 c.requires.0 (omega arith)

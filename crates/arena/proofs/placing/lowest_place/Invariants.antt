@@ -12,7 +12,7 @@ NoneBelow region cs n align at = (x : ℕ) → align ∣ x → x < at → Fits r
 
 abbrev pub invariant-loop-at : goal.invariant-loop-at
 invariant-loop-at l =
-    (l.align ∣ l.at) × NoneBelow l.a.head.region (chunks_of l.a.starts.now l.a.sizes.now l.a.pointers.now l.a.head.count) l.n l.align l.at
+    (l.align ∣ l.at) × NoneBelow l.a.lent.head.region (chunks_of l.a.lent.starts.now l.a.lent.sizes.now l.a.lent.pointers.now l.a.lent.head.count) l.n l.align l.at
 
 abbrev pub decreases-loop-at : goal.decreases-loop-at
 decreases-loop-at l = suc l.last - l.at

@@ -5,4 +5,4 @@ use Rattle.arena.proofs.Soundness.{align-open}
 use Rattle.arena.proofs.sizing.usable_size.Goals as goal
 
 pub usable_for-requires : goal.usable_for-requires
-usable_for-requires c = omega (arith, (align-open c.args.align c.requires.2).bound, up-near c.args.size c.max.result (omega arith))
+usable_for-requires c = omega (arith, (align-open c.args.request.layout.align c.args.request.align).bound, up-near c.args.request.layout.size c.max.result (omega arith), c.args.request.size)

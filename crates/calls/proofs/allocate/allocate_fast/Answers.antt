@@ -12,23 +12,22 @@ use Rattle.arena.specs.Inner.{lent_of}
 pub returns-then-a-eq0 : goal.returns-then-a-eq0
 returns-then-a-eq0 c = λ p e. absurd (none-some p e)
 
-pub returns-then-size-gt-MOST : goal.returns-then-size-gt-MOST
-returns-then-size-gt-MOST c = λ p e. absurd (none-some p e)
+pub returns-then-layout-gt-MOST : goal.returns-then-layout-gt-MOST
+returns-then-layout-gt-MOST c = λ p e. absurd (none-some p e)
 
 pub returns-then-not-is_allowed_align : goal.returns-then-not-is_allowed_align
 returns-then-not-is_allowed_align c = λ p e. absurd (none-some p e)
 
-pub current_gives-requires : goal.current_gives-requires
-current_gives-requires c =
-    (c.if-size-gt-MOST.false, left-true c.is_allowed_align.ensures c.if-not-is_allowed_align.false)
+pub invariant_of-request : goal.invariant_of-request
+invariant_of-request c = record { size = c.if-layout-gt-MOST.false; align = left-true c.is_allowed_align.ensures c.if-not-is_allowed_align.false }
 
 pub returns : goal.returns
 returns c =
     let tested =
-    sound-tested c.args.a.now.sound (c.if-size-gt-MOST.false, left-true c.is_allowed_align.ensures c.if-not-is_allowed_align.false) in
+    sound-tested c.args.a.now.sound (c.if-layout-gt-MOST.false, left-true c.is_allowed_align.ensures c.if-not-is_allowed_align.false) in
     λ p e.
     let a = lent_of c.args.a.now.lent in
     let room = sym c.current_gives.ensures ∙ e in
     placed-moved a
-    (from-current a.head (held_of a) c.args.size c.args.align (current-moved a.head.minimum (held_of a) c.args.size c.args.align room))
-    ∙ sym (allocate-works a _ c.args.size c.args.align refl tested)
+    (from-current a.head (held_of a) c.args.layout.size c.args.layout.align (current-moved a.head.minimum (held_of a) c.args.layout.size c.args.layout.align room))
+    ∙ sym (allocate-works a _ c.args.layout.size c.args.layout.align refl tested)

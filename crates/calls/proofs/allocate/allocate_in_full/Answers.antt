@@ -13,46 +13,41 @@ use Rattle.calls.proofs.Requests.{allocate-size, allocate-align, allocate-works}
 use Rattle.calls.proofs.allocate.allocate_in_full.Goals as goal
 use Rattle.arena.specs.Inner.{lent_of}
 
-pub returns-then-size-gt-MOST : goal.returns-then-size-gt-MOST
-returns-then-size-gt-MOST c =
+pub returns-then-layout-gt-MOST : goal.returns-then-layout-gt-MOST
+returns-then-layout-gt-MOST c =
     let a = lent_of c.args.a.now.lent in
-    placed-refused a c.refused.ensures ∙ sym (allocate-size a _ c.args.size c.args.align c.args.a.now.sound refl c.if-size-gt-MOST.true)
+    placed-refused a c.refused.ensures ∙ sym (allocate-size a _ c.args.layout.size c.args.layout.align c.args.a.now.sound refl c.if-layout-gt-MOST.true)
 
 pub returns-then-not-is_allowed_align : goal.returns-then-not-is_allowed_align
 returns-then-not-is_allowed_align c =
     let a = lent_of c.args.a.now.lent in
     placed-refused a c.refused-then-not-is_allowed_align.ensures
     ∙ sym
-    (allocate-align a _ c.args.size c.args.align c.args.a.now.sound refl c.if-size-gt-MOST.false
+    (allocate-align a _ c.args.layout.size c.args.layout.align c.args.a.now.sound refl c.if-layout-gt-MOST.false
     (taken_false c.is_allowed_align.ensures c.if-not-is_allowed_align.true))
 
-pub current_gives-requires : goal.current_gives-requires
-current_gives-requires c =
-    (c.if-size-gt-MOST.false, left-true c.is_allowed_align.ensures c.if-not-is_allowed_align.false)
-
-pub placed_slow-requires : goal.placed_slow-requires
-placed_slow-requires c =
-    (c.if-size-gt-MOST.false, left-true c.is_allowed_align.ensures c.if-not-is_allowed_align.false)
+pub invariant_of-request : goal.invariant_of-request
+invariant_of-request c = record { size = c.if-layout-gt-MOST.false; align = left-true c.is_allowed_align.ensures c.if-not-is_allowed_align.false }
 
 pub returns-in_default : goal.returns-in_default
 returns-in_default c =
     let tested =
-    sound-tested c.args.a.now.sound (c.if-size-gt-MOST.false, left-true c.is_allowed_align.ensures c.if-not-is_allowed_align.false) in
+    sound-tested c.args.a.now.sound (c.if-layout-gt-MOST.false, left-true c.is_allowed_align.ensures c.if-not-is_allowed_align.false) in
     let a = lent_of c.args.a.now.lent in
     let full = sym c.current_gives.ensures ∙ c.in_default.is in
     c.placed_slow.ensures
     ∙ sym
     (ap (given None a)
-    (from-ladder a.head (held_of a) c.args.size c.args.align (current-lacks a.head.minimum (held_of a) c.args.size c.args.align full)))
-    ∙ sym (allocate-works a _ c.args.size c.args.align refl tested)
+    (from-ladder a.head (held_of a) c.args.layout.size c.args.layout.align (current-lacks a.head.minimum (held_of a) c.args.layout.size c.args.layout.align full)))
+    ∙ sym (allocate-works a _ c.args.layout.size c.args.layout.align refl tested)
 
 pub returns : goal.returns
 returns c =
     let tested =
-    sound-tested c.args.a.now.sound (c.if-size-gt-MOST.false, left-true c.is_allowed_align.ensures c.if-not-is_allowed_align.false) in
+    sound-tested c.args.a.now.sound (c.if-layout-gt-MOST.false, left-true c.is_allowed_align.ensures c.if-not-is_allowed_align.false) in
     let a = lent_of c.args.a.now.lent in
     let room = sym c.current_gives.ensures ∙ c.in-Some.is in
     ap (answered_of a) c.moved.ensures
     ∙ placed-moved a
-    (from-current a.head (held_of a) c.args.size c.args.align (current-moved a.head.minimum (held_of a) c.args.size c.args.align room))
-    ∙ sym (allocate-works a _ c.args.size c.args.align refl tested)
+    (from-current a.head (held_of a) c.args.layout.size c.args.layout.align (current-moved a.head.minimum (held_of a) c.args.layout.size c.args.layout.align room))
+    ∙ sym (allocate-works a _ c.args.layout.size c.args.layout.align refl tested)

@@ -9,7 +9,7 @@ use Rattle.calls.proofs.block.is_acceptable.Given as goal
 
 abbrev pub invariant-loop-left : goal.invariant-loop-left
 invariant-loop-left l =
-    (l.left ≤ l.initial.left) × (any (has_block l.offset l.size) (chunks_of l.a.starts.now l.a.sizes.now l.a.pointers.now l.initial.left) ≡ any (has_block l.offset l.size) (chunks_of l.a.starts.now l.a.sizes.now l.a.pointers.now l.left))
+    (l.left ≤ l.initial.left) × (any (has_block l.block.offset l.block.layout.size) (chunks_of l.a.lent.starts.now l.a.lent.sizes.now l.a.lent.pointers.now l.initial.left) ≡ any (has_block l.block.offset l.block.layout.size) (chunks_of l.a.lent.starts.now l.a.lent.sizes.now l.a.lent.pointers.now l.left))
 
 abbrev pub decreases-loop-left : goal.decreases-loop-left
 decreases-loop-left l = l.left

@@ -4,9 +4,10 @@ use native.Mathlib.Nat.{le_antisymm, dvd_trans}
 use native.Mathlib.Omega.{arith}
 use mathlib.Core.Path.{◌≡◌, sym, ◌∙◌, ap}
 use Rattle.rounding.specs.Round.{round_up}
-use Rattle.rounding.proofs.Powers.{Power, one-bit-power, power-positive, power_divides, max_cases}
+use Rattle.rounding.proofs.Powers.{Power, one-bit-power, power-one-bit, power-positive, power_divides, max_cases}
 use Rattle.rounding.proofs.Rounding.{up-at-least, up-near, up_multiple, up-stays, up-monotone, up_least}
 use Rattle.std.specs.Prelude.{Some}
+use Rattle.arena.proofs.Soundness.{align-open}
 use Rattle.calls.specs.Allocate.{needed}
 use Rattle.calls.proofs.Carving.{chunk-gives}
 use Rattle.calls.proofs.Giving.{chunk-lacks}
@@ -22,34 +23,37 @@ up-twice n {p} {q} hp hq =
     (up-monotone q (up-at-least n p (power-positive hp))))
     (λ l. up-stays q (dvd_trans q (power_divides hq hp l) (up_multiple n p)))
 
+pub down_to_power-top-requires : goal.down_to_power-top-requires
+down_to_power-top-requires c = power-one-bit (align-open _ c.args.request.align).power
+
 pub up_to_power-aligned-requires : goal.up_to_power-aligned-requires
 up_to_power-aligned-requires c =
-    (c.requires.2, omega (arith, c.requires.3, c.requires.4))
+    (power-one-bit (align-open _ c.args.request.align).power, omega (arith, (align-open _ c.args.request.align).bound, c.args.request.size))
 
 pub up_to_power-needed-requires : goal.up_to_power-needed-requires
 up_to_power-needed-requires c =
-    let near = up-near c.args.size c.args.align (power-positive (one-bit-power c.args.align c.requires.2)) in
-    (c.requires.0, omega (arith, c.up_to_power-aligned.ensures, near, c.requires.1, c.requires.3, c.requires.4))
+    let near = up-near c.args.request.layout.size c.args.request.layout.align (power-positive (align-open _ c.args.request.align).power) in
+    (c.requires.0, omega (arith, c.up_to_power-aligned.ensures, near, c.requires.1, (align-open _ c.args.request.align).bound, c.args.request.size))
 
 pub returns-then-top-needed : goal.returns-then-top-needed
 returns-then-top-needed c =
-    let needed-bytes : (c.up_to_power-needed.result ≡ needed c.args.minimum c.args.size c.args.align) = c.up_to_power-needed.ensures
+    let needed-bytes : (c.up_to_power-needed.result ≡ needed c.args.minimum c.args.request.layout.size c.args.request.layout.align) = c.up_to_power-needed.ensures
     ∙ ap (λ (n : ℕ). round_up n c.args.minimum) c.up_to_power-aligned.ensures
-    ∙ up-twice c.args.size (one-bit-power c.args.align c.requires.2) (one-bit-power c.args.minimum c.requires.0) in
-    sym (chunk-lacks c.args.minimum c.args.c c.args.size c.args.align (omega (arith, c.down_to_power-top.ensures, needed-bytes)))
+    ∙ up-twice c.args.request.layout.size (align-open _ c.args.request.align).power (one-bit-power c.args.minimum c.requires.0) in
+    sym (chunk-lacks c.args.minimum c.args.c c.args.request.layout.size c.args.request.layout.align (omega (arith, c.down_to_power-top.ensures, needed-bytes)))
 
 pub returns-then-p-c : goal.returns-then-p-c
 returns-then-p-c c =
-    let needed-bytes : (c.up_to_power-needed.result ≡ needed c.args.minimum c.args.size c.args.align) = c.up_to_power-needed.ensures
+    let needed-bytes : (c.up_to_power-needed.result ≡ needed c.args.minimum c.args.request.layout.size c.args.request.layout.align) = c.up_to_power-needed.ensures
     ∙ ap (λ (n : ℕ). round_up n c.args.minimum) c.up_to_power-aligned.ensures
-    ∙ up-twice c.args.size (one-bit-power c.args.align c.requires.2) (one-bit-power c.args.minimum c.requires.0) in
-    sym (chunk-lacks c.args.minimum c.args.c c.args.size c.args.align (omega (arith, c.down_to_power-top.ensures, needed-bytes)))
+    ∙ up-twice c.args.request.layout.size (align-open _ c.args.request.align).power (one-bit-power c.args.minimum c.requires.0) in
+    sym (chunk-lacks c.args.minimum c.args.c c.args.request.layout.size c.args.request.layout.align (omega (arith, c.down_to_power-top.ensures, needed-bytes)))
 
 pub returns : goal.returns
 returns c =
-    let needed-bytes : (c.up_to_power-needed.result ≡ needed c.args.minimum c.args.size c.args.align) = c.up_to_power-needed.ensures
+    let needed-bytes : (c.up_to_power-needed.result ≡ needed c.args.minimum c.args.request.layout.size c.args.request.layout.align) = c.up_to_power-needed.ensures
     ∙ ap (λ (n : ℕ). round_up n c.args.minimum) c.up_to_power-aligned.ensures
-    ∙ up-twice c.args.size (one-bit-power c.args.align c.requires.2) (one-bit-power c.args.minimum c.requires.0) in
+    ∙ up-twice c.args.request.layout.size (align-open _ c.args.request.align).power (one-bit-power c.args.minimum c.requires.0) in
     let top = c.down_to_power-top.ensures in
     ap Some (omega (arith, top, needed-bytes))
-    ∙ sym (chunk-gives c.args.minimum c.args.c c.args.size c.args.align (omega (arith, top, needed-bytes)))
+    ∙ sym (chunk-gives c.args.minimum c.args.c c.args.request.layout.size c.args.request.layout.align (omega (arith, top, needed-bytes)))

@@ -12,19 +12,19 @@ returns-in-Err c =
     let a = lent_of c.args.a.now.lent in
     answered-refused a c.refused.ensures
     ∙ sym
-    (free-block a c.args.offset c.args.size c.args.align c.args.a.now.sound
+    (free-block a c.args.block.offset c.args.block.layout.size c.args.block.layout.align c.args.a.now.sound
     (tests-refuse _ (sym c.in-Err.is ∙ c.block_answer.ensures)))
 
 pub free_tested-requires : goal.free_tested-requires
 free_tested-requires c =
     let a = lent_of c.args.a.now.lent in
-    let named = block-passes a c.args.offset c.args.size c.args.align (tests-pass _ (sym c.in_default.is ∙ c.block_answer.ensures)) in
-    (block_inside a c.args.offset c.args.size c.args.align c.args.a.now.sound named.block)
+    let named = block-passes a c.args.block.offset c.args.block.layout.size c.args.block.layout.align (tests-pass _ (sym c.in_default.is ∙ c.block_answer.ensures)) in
+    (block_inside a c.args.block.offset c.args.block.layout.size c.args.block.layout.align c.args.a.now.sound named.block)
 
 pub returns : goal.returns
 returns c =
     let a = lent_of c.args.a.now.lent in
     (λ i. record { answer = Ok tt; arena = c.free_tested.ensures i })
     ∙ sym
-    (free-works a c.args.offset c.args.size c.args.align c.args.a.now.sound
+    (free-works a c.args.block.offset c.args.block.layout.size c.args.block.layout.align c.args.a.now.sound
     (tests-pass _ (sym c.in_default.is ∙ c.block_answer.ensures)))

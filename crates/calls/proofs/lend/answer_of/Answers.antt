@@ -14,7 +14,7 @@ returns-in_err-sound c =
     let p = err_from_is_err_and c.from_residual.result c.from_residual.ensures.1 in
     rw (p.1, p.2)
     (sym
-    (lend-refused s.a s.lent s.offset s.size s.align
+    (lend-refused s.a s.lent s.block.offset s.block.layout.size s.block.layout.align
     (tests-refuse _ (sym (sym (ap (λ a. first_of (lent_tests a s.lent)) c.lent.ensures) ∙ c.in_err-sound.ensures.err)))))
 
 pub returns : goal.returns
@@ -23,9 +23,9 @@ returns c =
     let known = c.in_ok-sound.ensures.ok in
     let own = ap lent_of known.0 ∙ c.lent.ensures in
     c.block_answer.ensures
-    ∙ ap (λ a. first_of (block_tests a s.offset s.size s.align)) own
+    ∙ ap (λ a. first_of (block_tests a s.block.offset s.block.layout.size s.block.layout.align)) own
     ∙ sym
-    (lend-rest s.a s.lent s.offset s.size s.align
+    (lend-rest s.a s.lent s.block.offset s.block.layout.size s.block.layout.align
     (tests-pass _
     (sym
     (lent-done s.a s.lent (sym (ap sound_of own) ∙ c.in_ok-sound.sound.sound) (known.1 ∙ ap (λ a. a.head.region) c.lent.ensures)))))

@@ -17,7 +17,7 @@ use Rattle.arena.specs.Inner.{lent_of}
 use Rattle.arena.specs.Refusals.{Test, test, refused_by}
 use Rattle.arena.specs.Sound.{allowed_align}
 use Rattle.arena.proofs.Refusing.{refused-now, refused-later, none-applies}
-use Rattle.arena.proofs.Soundness.{align-open, sound-open, sound-ready}
+use Rattle.arena.proofs.Soundness.{align-open}
 use Rattle.calls.specs.Tests.{acceptable, sizes_test, aligns_test, block_test}
 use Rattle.calls.specs.Write.{lend_answer}
 use Rattle.calls.specs.Inner.{change_tests}
@@ -54,13 +54,13 @@ module _ (a : Arena) (offset old old_align new new_align : ℕ) (backwards : Boo
   by-none : acceptable (held_of a) offset old old_align ≡ true → backwards ≡ false → refused_by from_block ≡ None
   by-none e b = none-applies from_block (true-not e, (b, tt))
 
-pub returns-then-old-gt-MOST : goal.returns-then-old-gt-MOST
+pub returns-then-block-gt-MOST : goal.returns-then-block-gt-MOST
 unfolding lend_answer
-returns-then-old-gt-MOST c =
+returns-then-block-gt-MOST c =
     let s = c.args in
     sym
     (ap lend_answer
-    (by_size (lent_of s.a.now.lent) s.offset s.old s.old_align s.new s.new_align s.backwards (or_left (ltb most s.new) (lt-ltb most s.old c.if-old-gt-MOST.true))))
+    (by_size (lent_of s.a.now.lent) s.block.offset s.block.layout.size s.block.layout.align s.new.size s.new.align s.backwards (or_left (ltb most s.new.size) (lt-ltb most s.block.layout.size c.if-block-gt-MOST.true))))
 
 pub returns-then-new-gt-MOST : goal.returns-then-new-gt-MOST
 unfolding lend_answer
@@ -68,7 +68,7 @@ returns-then-new-gt-MOST c =
     let s = c.args in
     sym
     (ap lend_answer
-    (by_size (lent_of s.a.now.lent) s.offset s.old s.old_align s.new s.new_align s.backwards (or_right (ltb most s.old) (lt-ltb most s.new c.if-new-gt-MOST.true))))
+    (by_size (lent_of s.a.now.lent) s.block.offset s.block.layout.size s.block.layout.align s.new.size s.new.align s.backwards (or_right (ltb most s.block.layout.size) (lt-ltb most s.new.size c.if-new-gt-MOST.true))))
 
 pub returns-then-not-is_allowed_align : goal.returns-then-not-is_allowed_align
 unfolding lend_answer
@@ -77,8 +77,8 @@ returns-then-not-is_allowed_align c =
     let off = false-not (taken_false c.is_allowed_align.ensures c.if-not-is_allowed_align.true) in
     sym
     (ap lend_answer
-    (by-align (lent_of s.a.now.lent) s.offset s.old s.old_align s.new s.new_align s.backwards c.if-old-gt-MOST.false c.if-new-gt-MOST.false
-    (or_left (not (allowed_align s.new_align)) off)))
+    (by-align (lent_of s.a.now.lent) s.block.offset s.block.layout.size s.block.layout.align s.new.size s.new.align s.backwards c.if-block-gt-MOST.false c.if-new-gt-MOST.false
+    (or_left (not (allowed_align s.new.align)) off)))
 
 pub returns-then-not-is_allowed_align-2 : goal.returns-then-not-is_allowed_align-2
 unfolding lend_answer
@@ -87,54 +87,51 @@ returns-then-not-is_allowed_align-2 c =
     let off = false-not (taken_false c.is_allowed_align-2.ensures c.if-not-is_allowed_align-2.true) in
     sym
     (ap lend_answer
-    (by-align (lent_of s.a.now.lent) s.offset s.old s.old_align s.new s.new_align s.backwards c.if-old-gt-MOST.false c.if-new-gt-MOST.false
-    (or_right (not (allowed_align s.old_align)) off)))
+    (by-align (lent_of s.a.now.lent) s.block.offset s.block.layout.size s.block.layout.align s.new.size s.new.align s.backwards c.if-block-gt-MOST.false c.if-new-gt-MOST.false
+    (or_right (not (allowed_align s.block.layout.align)) off)))
 
 pub is_acceptable-requires : goal.is_acceptable-requires
 is_acceptable-requires c =
-    let old-allowed : allowed_align c.args.old_align ≡ true = left-true c.is_allowed_align.ensures c.if-not-is_allowed_align.false in
-    record {
-      ready = sound-ready (sound-open _ c.args.a.now.sound);
-      align_value = power-one-bit (align-open _ old-allowed).power;
-    }
+    let old-allowed : allowed_align c.args.block.layout.align ≡ true = left-true c.is_allowed_align.ensures c.if-not-is_allowed_align.false in
+    power-one-bit (align-open _ old-allowed).power
 
 pub returns-then-not-is_acceptable : goal.returns-then-not-is_acceptable
 unfolding lend_answer
 returns-then-not-is_acceptable c =
-    let old-allowed : allowed_align c.args.old_align ≡ true = left-true c.is_allowed_align.ensures c.if-not-is_allowed_align.false in
-    let past : (let s = c.args in refused_by (change_tests (lent_of s.a.now.lent) s.offset s.old s.old_align s.new s.new_align s.backwards) ≡ refused_by (block_test (held_of (lent_of s.a.now.lent)) s.offset s.old s.old_align ∷ (test Direction s.backwards ∷ []))) = let s = c.args in
-    past-align (lent_of s.a.now.lent) s.offset s.old s.old_align s.new s.new_align s.backwards c.if-old-gt-MOST.false c.if-new-gt-MOST.false
+    let old-allowed : allowed_align c.args.block.layout.align ≡ true = left-true c.is_allowed_align.ensures c.if-not-is_allowed_align.false in
+    let past : (let s = c.args in refused_by (change_tests (lent_of s.a.now.lent) s.block.offset s.block.layout.size s.block.layout.align s.new.size s.new.align s.backwards) ≡ refused_by (block_test (held_of (lent_of s.a.now.lent)) s.block.offset s.block.layout.size s.block.layout.align ∷ (test Direction s.backwards ∷ []))) = let s = c.args in
+    past-align (lent_of s.a.now.lent) s.block.offset s.block.layout.size s.block.layout.align s.new.size s.new.align s.backwards c.if-block-gt-MOST.false c.if-new-gt-MOST.false
     old-allowed (left-true c.is_allowed_align-2.ensures c.if-not-is_allowed_align-2.false) in
     let s = c.args in
     sym
     (ap lend_answer
     (past
-    ∙ by-block (lent_of s.a.now.lent) s.offset s.old s.old_align s.new s.new_align s.backwards (taken_false c.is_acceptable.ensures c.if-not-is_acceptable.true)))
+    ∙ by-block (lent_of s.a.now.lent) s.block.offset s.block.layout.size s.block.layout.align s.new.size s.new.align s.backwards (taken_false c.is_acceptable.ensures c.if-not-is_acceptable.true)))
 
 pub returns-then-backwards : goal.returns-then-backwards
 unfolding lend_answer
 returns-then-backwards c =
-    let old-allowed : allowed_align c.args.old_align ≡ true = left-true c.is_allowed_align.ensures c.if-not-is_allowed_align.false in
-    let past : (let s = c.args in refused_by (change_tests (lent_of s.a.now.lent) s.offset s.old s.old_align s.new s.new_align s.backwards) ≡ refused_by (block_test (held_of (lent_of s.a.now.lent)) s.offset s.old s.old_align ∷ (test Direction s.backwards ∷ []))) = let s = c.args in
-    past-align (lent_of s.a.now.lent) s.offset s.old s.old_align s.new s.new_align s.backwards c.if-old-gt-MOST.false c.if-new-gt-MOST.false
+    let old-allowed : allowed_align c.args.block.layout.align ≡ true = left-true c.is_allowed_align.ensures c.if-not-is_allowed_align.false in
+    let past : (let s = c.args in refused_by (change_tests (lent_of s.a.now.lent) s.block.offset s.block.layout.size s.block.layout.align s.new.size s.new.align s.backwards) ≡ refused_by (block_test (held_of (lent_of s.a.now.lent)) s.block.offset s.block.layout.size s.block.layout.align ∷ (test Direction s.backwards ∷ []))) = let s = c.args in
+    past-align (lent_of s.a.now.lent) s.block.offset s.block.layout.size s.block.layout.align s.new.size s.new.align s.backwards c.if-block-gt-MOST.false c.if-new-gt-MOST.false
     old-allowed (left-true c.is_allowed_align-2.ensures c.if-not-is_allowed_align-2.false) in
     let s = c.args in
     sym
     (ap lend_answer
     (past
-    ∙ by-direction (lent_of s.a.now.lent) s.offset s.old s.old_align s.new s.new_align s.backwards
+    ∙ by-direction (lent_of s.a.now.lent) s.block.offset s.block.layout.size s.block.layout.align s.new.size s.new.align s.backwards
     (left-true c.is_acceptable.ensures c.if-not-is_acceptable.false) c.if-backwards.true))
 
 pub returns : goal.returns
 unfolding lend_answer
 returns c =
-    let old-allowed : allowed_align c.args.old_align ≡ true = left-true c.is_allowed_align.ensures c.if-not-is_allowed_align.false in
-    let past : (let s = c.args in refused_by (change_tests (lent_of s.a.now.lent) s.offset s.old s.old_align s.new s.new_align s.backwards) ≡ refused_by (block_test (held_of (lent_of s.a.now.lent)) s.offset s.old s.old_align ∷ (test Direction s.backwards ∷ []))) = let s = c.args in
-    past-align (lent_of s.a.now.lent) s.offset s.old s.old_align s.new s.new_align s.backwards c.if-old-gt-MOST.false c.if-new-gt-MOST.false
+    let old-allowed : allowed_align c.args.block.layout.align ≡ true = left-true c.is_allowed_align.ensures c.if-not-is_allowed_align.false in
+    let past : (let s = c.args in refused_by (change_tests (lent_of s.a.now.lent) s.block.offset s.block.layout.size s.block.layout.align s.new.size s.new.align s.backwards) ≡ refused_by (block_test (held_of (lent_of s.a.now.lent)) s.block.offset s.block.layout.size s.block.layout.align ∷ (test Direction s.backwards ∷ []))) = let s = c.args in
+    past-align (lent_of s.a.now.lent) s.block.offset s.block.layout.size s.block.layout.align s.new.size s.new.align s.backwards c.if-block-gt-MOST.false c.if-new-gt-MOST.false
     old-allowed (left-true c.is_allowed_align-2.ensures c.if-not-is_allowed_align-2.false) in
     let s = c.args in
     sym
     (ap lend_answer
     (past
-    ∙ by-none (lent_of s.a.now.lent) s.offset s.old s.old_align s.new s.new_align s.backwards
+    ∙ by-none (lent_of s.a.now.lent) s.block.offset s.block.layout.size s.block.layout.align s.new.size s.new.align s.backwards
     (left-true c.is_acceptable.ensures c.if-not-is_acceptable.false) c.if-backwards.false))

@@ -30,9 +30,6 @@ returns-in_default c =
     let a = c.args in
     rw (le-leb end_room (length a.out.now) c.if-out-lt-END.false, c.in_default.ensures.unsound) (record { put = put-none a.out.now; upper_bound = omega arith })
 
-pub held_bytes-held-requires : goal.held_bytes-held-requires
-held_bytes-held-requires c = sound-ready (sound-open _ c.in-Some.sound.sound)
-
 pub put_held-requires : goal.put_held-requires
 put_held-requires c =
     let l = ending-length (stage_said c.args.state.stage) c.args.state.number c.args.rest.now in

@@ -18,12 +18,12 @@ use Rattle.arena.specs.Inner.{lent_of}
 pub carry-requires : goal.carry-requires
 carry-requires c =
     let own : Arena = lent_of c.args.a.now.lent in
-    let answered : (p : ℕ) → c.grow_fast.result ≡ Some p → let s = c.args in answered_of own (record { answer = Ok p; change = Moved p }) ≡ grow_of own (length s.region.now) s.offset s.old s.old_align s.new s.new_align = λ p e. let s = c.args in
+    let answered : (p : ℕ) → c.grow_fast.result ≡ Some p → let s = c.args in answered_of own (record { answer = Ok p; change = Moved p }) ≡ grow_of own (length s.region.now) s.block.offset s.block.layout.size s.block.layout.align s.new.size s.new.align = λ p e. let s = c.args in
     c.grow_fast.ensures p e
-    ∙ sym (ap (λ (lent : ℕ). grow_of own lent s.offset s.old s.old_align s.new s.new_align) c.requires) in
+    ∙ sym (ap (λ (lent : ℕ). grow_of own lent s.block.offset s.block.layout.size s.block.layout.align s.new.size s.new.align) c.requires) in
     let s = c.args in
     let (is, up) =
-    grow-served own (length s.region.now) s.offset s.old s.old_align s.new s.new_align
+    grow-served own (length s.region.now) s.block.offset s.block.layout.size s.block.layout.align s.new.size s.new.align
     (sym (ap (λ (o : Allocation). o.answer) (answered _ c.in-Some.is))) in
     (omega (arith, is.source), omega (arith, is.room))
 
@@ -31,12 +31,12 @@ pub returns : goal.returns
 unfolding grow_bytes after_given
 returns c =
     let own : Arena = lent_of c.args.a.now.lent in
-    let answered : (p : ℕ) → c.grow_fast.result ≡ Some p → let s = c.args in answered_of own (record { answer = Ok p; change = Moved p }) ≡ grow_of own (length s.region.now) s.offset s.old s.old_align s.new s.new_align = λ p e. let s = c.args in
+    let answered : (p : ℕ) → c.grow_fast.result ≡ Some p → let s = c.args in answered_of own (record { answer = Ok p; change = Moved p }) ≡ grow_of own (length s.region.now) s.block.offset s.block.layout.size s.block.layout.align s.new.size s.new.align = λ p e. let s = c.args in
     c.grow_fast.ensures p e
-    ∙ sym (ap (λ (lent : ℕ). grow_of own lent s.offset s.old s.old_align s.new s.new_align) c.requires) in
+    ∙ sym (ap (λ (lent : ℕ). grow_of own lent s.block.offset s.block.layout.size s.block.layout.align s.new.size s.new.align) c.requires) in
     let s = c.args in
     let is = answered _ c.in-Some.is in
     record {
       placed_by = ap (answered_of own) c.moved.ensures ∙ is;
-      region_after = c.carry.ensures ∙ bytes-shown (λ (to : ℕ). carried s.region.now s.offset to s.old) s.region.now is refl;
+      region_after = c.carry.ensures ∙ bytes-shown (λ (to : ℕ). carried s.region.now s.block.offset to s.block.layout.size) s.region.now is refl;
     }

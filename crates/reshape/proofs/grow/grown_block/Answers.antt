@@ -15,11 +15,11 @@ returns-in_default c =
     let a = lent_of c.args.a.now.lent in
     let full = sym c.in_place.ensures ∙ c.in_default.is in
     c.allocate_in_full.ensures
-    ∙ allocate-works a _ c.args.new c.args.new_align refl c.requires.request
+    ∙ allocate-works a _ c.args.new.size c.args.new.align refl c.requires.request
     ∙ sym
     (ap (given None a)
-    (grows-afresh a.head (held_of a) c.args.offset c.args.old c.args.old_align c.args.new c.args.new_align
-    (grown-lacks a.head.minimum (held_of a) c.args.offset c.args.old c.args.old_align c.args.new c.args.new_align full)))
+    (grows-afresh a.head (held_of a) c.args.block.offset c.args.block.layout.size c.args.block.layout.align c.args.new.size c.args.new.align
+    (grown-lacks a.head.minimum (held_of a) c.args.block.offset c.args.block.layout.size c.args.block.layout.align c.args.new.size c.args.new.align full)))
 
 pub returns : goal.returns
 returns c =
@@ -27,5 +27,5 @@ returns c =
     let room = sym c.in_place.ensures ∙ c.in-Some.is in
     ap (answered_of a) c.moved.ensures
     ∙ placed-moved a
-    (grows-in-place a.head (held_of a) c.args.offset c.args.old c.args.old_align c.args.new c.args.new_align
-    (grown-moved a.head.minimum (held_of a) c.args.offset c.args.old c.args.old_align c.args.new c.args.new_align room))
+    (grows-in-place a.head (held_of a) c.args.block.offset c.args.block.layout.size c.args.block.layout.align c.args.new.size c.args.new.align
+    (grown-moved a.head.minimum (held_of a) c.args.block.offset c.args.block.layout.size c.args.block.layout.align c.args.new.size c.args.new.align room))

@@ -16,11 +16,11 @@ use Rattle.calls.specs.Inner.{current_pointer}
 use Rattle.calls.proofs.Growing.{not-to-higher, not-elsewhere, there}
 use Rattle.reshape.proofs.grow.in_place.Goals as goal
 
-pub returns-then-old_align-new_align : goal.returns-then-old_align-new_align
-returns-then-old_align-new_align c =
+pub returns-then-block-new : goal.returns-then-block-new
+returns-then-block-new c =
     let held : List Chunk = held_of (lent_of c.args.a.now.lent) in
     let s = c.args in
-    sym ((not-to-higher s.a.now.lent.head.minimum held s.offset s.old s.old_align s.new s.new_align c.if-old_align-new_align.true))
+    sym ((not-to-higher s.a.now.lent.head.minimum held s.block.offset s.block.layout.size s.block.layout.align s.new.size s.new.align c.if-block-new.true))
 
 pub returns-then-not-is_at_pointer : goal.returns-then-not-is_at_pointer
 returns-then-not-is_at_pointer c =
@@ -28,7 +28,7 @@ returns-then-not-is_at_pointer c =
     let s = c.args in
     sym
     (
-    (not-elsewhere s.a.now.lent.head.minimum held s.offset s.old s.old_align s.new s.new_align
+    (not-elsewhere s.a.now.lent.head.minimum held s.block.offset s.block.layout.size s.block.layout.align s.new.size s.new.align
     (taken_false c.is_at_pointer.ensures c.if-not-is_at_pointer.true)))
 
 pub up_to_power-requires : goal.up_to_power-requires
@@ -40,21 +40,24 @@ up_to_power-requires c =
 pub overflow_sub-more : goal.overflow_sub-more
 overflow_sub-more c =
     let head = (sound-open _ c.args.a.now.sound).head in
-    omega (arith, c.up_to_power.ensures, c.requires.upwards, up-at-least c.args.new c.args.a.now.lent.head.minimum (power-positive head.minimum-power))
+    omega (arith, c.up_to_power.ensures, c.requires.upwards, up-at-least c.args.new.size c.args.a.now.lent.head.minimum (power-positive head.minimum-power))
 
-pub current_gives-requires : goal.current_gives-requires
-current_gives-requires c =
+pub invariant_of-current_gives : goal.invariant_of-current_gives
+invariant_of-current_gives c =
     let head = (sound-open _ c.args.a.now.sound).head in
     let even : c.args.a.now.lent.head.minimum ∣ most = power_divides head.minimum-power (two-to-the 30) (omega (arith, head.minimum-bound)) in
-    (omega (arith, c.up_to_power.ensures, up_least c.args.new c.args.a.now.lent.head.minimum even c.requires.request.size_bound), c.requires.old_align_allowed)
+    record {
+      size = omega (arith, c.up_to_power.ensures, up_least c.args.new.size c.args.a.now.lent.head.minimum even c.requires.request.size_bound);
+      align = c.requires.old_align_allowed;
+    }
 
 pub returns : goal.returns
 returns c =
     let held : List Chunk = held_of (lent_of c.args.a.now.lent) in
     let s = c.args in
     c.current_gives.ensures
-    ∙ ap (λ (top : ℕ). (current_pointer s.a.now.lent.head.minimum held (top - s.old) s.old_align)) c.up_to_power.ensures
+    ∙ ap (λ (top : ℕ). (current_pointer s.a.now.lent.head.minimum held (top - s.block.layout.size) s.block.layout.align)) c.up_to_power.ensures
     ∙ sym
     (
-    (there s.a.now.lent.head.minimum held s.offset s.old s.old_align s.new s.new_align c.if-old_align-new_align.false
+    (there s.a.now.lent.head.minimum held s.block.offset s.block.layout.size s.block.layout.align s.new.size s.new.align c.if-block-new.false
     (left-true c.is_at_pointer.ensures c.if-not-is_at_pointer.false)))

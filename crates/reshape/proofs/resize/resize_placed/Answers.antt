@@ -23,99 +23,99 @@ use Rattle.calls.proofs.Placing.{placed-refused}
 use Rattle.calls.proofs.Testing.{passed-before, tests-refuse, tests-pass, block_inside}
 use Rattle.reshape.proofs.resize.resize_placed.Goals as goal
 
-pub returns-then-old-eq0 : goal.returns-then-old-eq0
+pub returns-then-block-eq0 : goal.returns-then-block-eq0
 unfolding resize_bytes
-returns-then-old-eq0 c =
+returns-then-block-eq0 c =
     let own : Arena = lent_of c.args.a.now.lent in
     let s = c.args in
     let lent = length s.region.now in
-    let zero = c.if-old-eq0.true in record {
+    let zero = c.if-block-eq0.true in record {
       placed_by = c.allocate_in_full.ensures
-          ∙ sym (resize-nothing own s.offset s.old s.align s.new lent zero ∙ ap (λ (n : ℕ). allocate_of own n s.new s.align) c.requires);
-      region_after = sym (nothing-carried own s.offset s.old s.align s.new s.region.now (resize_of own lent s.offset s.old s.align s.new).answer zero);
+          ∙ sym (resize-nothing own s.block.offset s.block.layout.size s.block.layout.align s.new lent zero ∙ ap (λ (n : ℕ). allocate_of own n s.new s.block.layout.align) c.requires);
+      region_after = sym (nothing-carried own s.block.offset s.block.layout.size s.block.layout.align s.new s.region.now (resize_of own lent s.block.offset s.block.layout.size s.block.layout.align s.new).answer zero);
     }
 
 pub returns-in-Err : goal.returns-in-Err
 unfolding resize_bytes given after_given resize_of
 returns-in-Err c =
     let own : Arena = lent_of c.args.a.now.lent in
-    let stopped : (let s = c.args in answered_of own c.refused.result ≡ resize_of own (length s.region.now) s.offset s.old s.align s.new) = let s = c.args in
+    let stopped : (let s = c.args in answered_of own c.refused.result ≡ resize_of own (length s.region.now) s.block.offset s.block.layout.size s.block.layout.align s.new) = let s = c.args in
     placed-refused own c.refused.ensures
     ∙ sym
-    (stopped-later own (lent_tests own (length s.region.now)) (resize_rest own s.offset s.old s.align s.new)
-    (resize_in own.head (held_of own) s.offset s.old s.align s.new) (lent-own own c.args.a.now.sound c.requires)
-    (as-change own s.offset s.old s.align s.new c.if-old-eq0.false
+    (stopped-later own (lent_tests own (length s.region.now)) (resize_rest own s.block.offset s.block.layout.size s.block.layout.align s.new)
+    (resize_in own.head (held_of own) s.block.offset s.block.layout.size s.block.layout.align s.new) (lent-own own c.args.a.now.sound c.requires)
+    (as-change own s.block.offset s.block.layout.size s.block.layout.align s.new c.if-block-eq0.false
     ∙ tests-refuse _ (sym c.in-Err.is ∙ c.change_answer.ensures))) in
     let s = c.args in record {
       placed_by = stopped;
-      region_after = bytes-shown (λ (to : ℕ). carried s.region.now s.offset to (min s.old s.new)) s.region.now stopped
+      region_after = bytes-shown (λ (to : ℕ). carried s.region.now s.block.offset to (min s.block.layout.size s.new)) s.region.now stopped
           (ap (λ (o : Answered ℕ). o.answer) c.refused.ensures);
     }
 
 pub resized_block-got-requires : goal.resized_block-got-requires
 resized_block-got-requires c =
     let own : Arena = lent_of c.args.a.now.lent in
-    let passed : (let s = c.args in refused_by (resize_tests own (length s.region.now) s.offset s.old s.align s.new) ≡ None) = let s = c.args in
-    passed-before (lent_tests own (length s.region.now)) (resize_rest own s.offset s.old s.align s.new) (lent-own own c.args.a.now.sound c.requires)
-    ∙ as-change own s.offset s.old s.align s.new c.if-old-eq0.false
+    let passed : (let s = c.args in refused_by (resize_tests own (length s.region.now) s.block.offset s.block.layout.size s.block.layout.align s.new) ≡ None) = let s = c.args in
+    passed-before (lent_tests own (length s.region.now)) (resize_rest own s.block.offset s.block.layout.size s.block.layout.align s.new) (lent-own own c.args.a.now.sound c.requires)
+    ∙ as-change own s.block.offset s.block.layout.size s.block.layout.align s.new c.if-block-eq0.false
     ∙ tests-pass _ (sym c.in_default.is ∙ c.change_answer.ensures) in
     let s = c.args in
-    let some : 0 < s.old = omega (arith, c.if-old-eq0.false) in
-    let accepted = resize-accepted own (length s.region.now) s.offset s.old s.align s.new passed some in record {
-      tested = request-tested (resize-passes own (length s.region.now) s.offset s.old s.align s.new passed);
-      nonzero = (some, block_inside own s.offset s.old s.align c.args.a.now.sound accepted);
+    let some : 0 < s.block.layout.size = omega (arith, c.if-block-eq0.false) in
+    let accepted = resize-accepted own (length s.region.now) s.block.offset s.block.layout.size s.block.layout.align s.new passed some in record {
+      tested = request-tested (resize-passes own (length s.region.now) s.block.offset s.block.layout.size s.block.layout.align s.new passed);
+      nonzero = (some, block_inside own s.block.offset s.block.layout.size s.block.layout.align c.args.a.now.sound accepted);
     }
 
 pub returns-in_default-answer : goal.returns-in_default-answer
 unfolding resize_bytes after_given resize_of
 returns-in_default-answer c =
     let own : Arena = lent_of c.args.a.now.lent in
-    let passed : (let s = c.args in refused_by (resize_tests own (length s.region.now) s.offset s.old s.align s.new) ≡ None) = let s = c.args in
-    passed-before (lent_tests own (length s.region.now)) (resize_rest own s.offset s.old s.align s.new) (lent-own own c.args.a.now.sound c.requires)
-    ∙ as-change own s.offset s.old s.align s.new c.if-old-eq0.false
+    let passed : (let s = c.args in refused_by (resize_tests own (length s.region.now) s.block.offset s.block.layout.size s.block.layout.align s.new) ≡ None) = let s = c.args in
+    passed-before (lent_tests own (length s.region.now)) (resize_rest own s.block.offset s.block.layout.size s.block.layout.align s.new) (lent-own own c.args.a.now.sound c.requires)
+    ∙ as-change own s.block.offset s.block.layout.size s.block.layout.align s.new c.if-block-eq0.false
     ∙ tests-pass _ (sym c.in_default.is ∙ c.change_answer.ensures) in
-    let answered : (let s = c.args in answered_of own c.resized_block-got.result ≡ resize_of own (length s.region.now) s.offset s.old s.align s.new) = let s = c.args in
+    let answered : (let s = c.args in answered_of own c.resized_block-got.result ≡ resize_of own (length s.region.now) s.block.offset s.block.layout.size s.block.layout.align s.new) = let s = c.args in
     c.resized_block-got.ensures
-    ∙ sym (ap (λ o. given o own (resize_in own.head (held_of own) s.offset s.old s.align s.new)) passed) in
+    ∙ sym (ap (λ o. given o own (resize_in own.head (held_of own) s.block.offset s.block.layout.size s.block.layout.align s.new)) passed) in
     let s = c.args in record {
       placed_by = answered;
-      region_after = bytes-shown (λ (to : ℕ). carried s.region.now s.offset to (min s.old s.new)) s.region.now answered c.in_default-answer.is;
+      region_after = bytes-shown (λ (to : ℕ). carried s.region.now s.block.offset to (min s.block.layout.size s.new)) s.region.now answered c.in_default-answer.is;
     }
 
 pub carry-requires : goal.carry-requires
 unfolding resize_of
 carry-requires c =
     let own : Arena = lent_of c.args.a.now.lent in
-    let passed : (let s = c.args in refused_by (resize_tests own (length s.region.now) s.offset s.old s.align s.new) ≡ None) = let s = c.args in
-    passed-before (lent_tests own (length s.region.now)) (resize_rest own s.offset s.old s.align s.new) (lent-own own c.args.a.now.sound c.requires)
-    ∙ as-change own s.offset s.old s.align s.new c.if-old-eq0.false
+    let passed : (let s = c.args in refused_by (resize_tests own (length s.region.now) s.block.offset s.block.layout.size s.block.layout.align s.new) ≡ None) = let s = c.args in
+    passed-before (lent_tests own (length s.region.now)) (resize_rest own s.block.offset s.block.layout.size s.block.layout.align s.new) (lent-own own c.args.a.now.sound c.requires)
+    ∙ as-change own s.block.offset s.block.layout.size s.block.layout.align s.new c.if-block-eq0.false
     ∙ tests-pass _ (sym c.in_default.is ∙ c.change_answer.ensures) in
-    let answered : (let s = c.args in answered_of own c.resized_block-got.result ≡ resize_of own (length s.region.now) s.offset s.old s.align s.new) = let s = c.args in
+    let answered : (let s = c.args in answered_of own c.resized_block-got.result ≡ resize_of own (length s.region.now) s.block.offset s.block.layout.size s.block.layout.align s.new) = let s = c.args in
     c.resized_block-got.ensures
-    ∙ sym (ap (λ o. given o own (resize_in own.head (held_of own) s.offset s.old s.align s.new)) passed) in
+    ∙ sym (ap (λ o. given o own (resize_in own.head (held_of own) s.block.offset s.block.layout.size s.block.layout.align s.new)) passed) in
     let s = c.args in
     let is =
-    resize-served own s.offset s.old s.align s.new (length s.region.now) (omega (arith, c.if-old-eq0.false))
+    resize-served own s.block.offset s.block.layout.size s.block.layout.align s.new (length s.region.now) (omega (arith, c.if-block-eq0.false))
     (sym (ap (λ (o : Allocation). o.answer) answered) ∙ c.in-Ok.is) in (
-      omega (arith, is.source, c.min.ensures, min-le_left s.old s.new),
-      omega (arith, is.room, c.min.ensures, min-le_right s.old s.new),
+      omega (arith, is.source, c.min.ensures, min-le_left s.block.layout.size s.new),
+      omega (arith, is.room, c.min.ensures, min-le_right s.block.layout.size s.new),
     )
 
 pub returns : goal.returns
 unfolding resize_bytes after_given resize_of
 returns c =
     let own : Arena = lent_of c.args.a.now.lent in
-    let passed : (let s = c.args in refused_by (resize_tests own (length s.region.now) s.offset s.old s.align s.new) ≡ None) = let s = c.args in
-    passed-before (lent_tests own (length s.region.now)) (resize_rest own s.offset s.old s.align s.new) (lent-own own c.args.a.now.sound c.requires)
-    ∙ as-change own s.offset s.old s.align s.new c.if-old-eq0.false
+    let passed : (let s = c.args in refused_by (resize_tests own (length s.region.now) s.block.offset s.block.layout.size s.block.layout.align s.new) ≡ None) = let s = c.args in
+    passed-before (lent_tests own (length s.region.now)) (resize_rest own s.block.offset s.block.layout.size s.block.layout.align s.new) (lent-own own c.args.a.now.sound c.requires)
+    ∙ as-change own s.block.offset s.block.layout.size s.block.layout.align s.new c.if-block-eq0.false
     ∙ tests-pass _ (sym c.in_default.is ∙ c.change_answer.ensures) in
-    let answered : (let s = c.args in answered_of own c.resized_block-got.result ≡ resize_of own (length s.region.now) s.offset s.old s.align s.new) = let s = c.args in
+    let answered : (let s = c.args in answered_of own c.resized_block-got.result ≡ resize_of own (length s.region.now) s.block.offset s.block.layout.size s.block.layout.align s.new) = let s = c.args in
     c.resized_block-got.ensures
-    ∙ sym (ap (λ o. given o own (resize_in own.head (held_of own) s.offset s.old s.align s.new)) passed) in
+    ∙ sym (ap (λ o. given o own (resize_in own.head (held_of own) s.block.offset s.block.layout.size s.block.layout.align s.new)) passed) in
     let s = c.args in
     record {
       placed_by = answered;
       region_after = c.carry.ensures
-          ∙ ap (carried s.region.now s.offset c.in-Ok.to) c.min.ensures
-          ∙ bytes-shown (λ (to : ℕ). carried s.region.now s.offset to (min s.old s.new)) s.region.now answered c.in-Ok.is;
+          ∙ ap (carried s.region.now s.block.offset c.in-Ok.to) c.min.ensures
+          ∙ bytes-shown (λ (to : ℕ). carried s.region.now s.block.offset to (min s.block.layout.size s.new)) s.region.now answered c.in-Ok.is;
     }

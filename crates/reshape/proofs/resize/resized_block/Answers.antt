@@ -8,16 +8,16 @@ use Rattle.calls.specs.Allocate.{given}
 use Rattle.calls.proofs.Needing.{resize-down, resize-up}
 use Rattle.reshape.proofs.resize.resized_block.Goals as goal
 
-pub returns-then-new-old : goal.returns-then-new-old
-returns-then-new-old c =
+pub returns-then-new-block : goal.returns-then-new-block
+returns-then-new-block c =
     let own : Arena = lent_of c.args.a.now.lent in
     let a = c.args in
     c.shrunk_block.ensures
-    ∙ sym (ap (given None own) (resize-down own.head (held_of own) a.offset a.old a.align a.new c.requires.nonzero.0 c.if-new-old.true))
+    ∙ sym (ap (given None own) (resize-down own.head (held_of own) a.block.offset a.block.layout.size a.block.layout.align a.new c.requires.nonzero.0 c.if-new-block.true))
 
 pub returns : goal.returns
 returns c =
     let own : Arena = lent_of c.args.a.now.lent in
     let a = c.args in
     c.grown_block.ensures
-    ∙ sym (ap (given None own) (resize-up own.head (held_of own) a.offset a.old a.align a.new c.requires.nonzero.0 c.if-new-old.false))
+    ∙ sym (ap (given None own) (resize-up own.head (held_of own) a.block.offset a.block.layout.size a.block.layout.align a.new c.requires.nonzero.0 c.if-new-block.false))

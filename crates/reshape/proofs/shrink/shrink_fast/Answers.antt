@@ -23,11 +23,11 @@ use Rattle.calls.proofs.Testing.{block_inside}
 use Rattle.reshape.proofs.shrink.shrink_fast.Goals as goal
 use Rattle.std.specs.Prelude.{Ok}
 
-pub returns-then-old-new : goal.returns-then-old-new
-returns-then-old-new c = λ p e. absurd (none-some p e)
+pub returns-then-block-new : goal.returns-then-block-new
+returns-then-block-new c = λ p e. absurd (none-some p e)
 
-pub returns-then-new_align-old_align : goal.returns-then-new_align-old_align
-returns-then-new_align-old_align c = λ p e. absurd (none-some p e)
+pub returns-then-new-block : goal.returns-then-new-block
+returns-then-new-block c = λ p e. absurd (none-some p e)
 
 pub returns-then-not-is_last_block : goal.returns-then-not-is_last_block
 returns-then-not-is_last_block c = λ p e. absurd (none-some p e)
@@ -35,17 +35,17 @@ returns-then-not-is_last_block c = λ p e. absurd (none-some p e)
 pub down_to_power-d-requires : goal.down_to_power-d-requires
 down_to_power-d-requires c =
     let own : Arena = lent_of c.args.a.now.lent in
-    let last : (let s = c.args in LastBlock own s.offset s.old s.old_align) = c.is_last_block.ensures (left-true refl c.if-not-is_last_block.false) in
-    let tested : (let s = c.args in ShrinkTested own s.offset s.old s.new s.new_align) = let s = c.args in
+    let last : (let s = c.args in LastBlock own s.block.offset s.block.layout.size s.block.layout.align) = c.is_last_block.ensures (left-true refl c.if-not-is_last_block.false) in
+    let tested : (let s = c.args in ShrinkTested own s.block.offset s.block.layout.size s.new.size s.new.align) = let s = c.args in
     record {
       request =
           record {
             sound = c.args.a.now.sound;
-            size_bound = omega (arith, c.if-old-new.false, last.size_bound);
-            align_allowed = ap allowed_align c.if-new_align-old_align.false ∙ last.align_allowed;
+            size_bound = omega (arith, c.if-block-new.false, last.size_bound);
+            align_allowed = ap allowed_align c.if-new-block.false ∙ last.align_allowed;
           };
-      inside = block_inside own s.offset s.old s.old_align c.args.a.now.sound last.block;
-      downwards = c.if-old-new.false;
+      inside = block_inside own s.block.offset s.block.layout.size s.block.layout.align c.args.a.now.sound last.block;
+      downwards = c.if-block-new.false;
     } in
     let r = tested.request in
     ap one_bit c.max.ensures ∙ power-one-bit (power-max (align-open _ r.align_allowed).power (sound-open _ r.sound).head.minimum-power)
@@ -53,58 +53,58 @@ down_to_power-d-requires c =
 pub overflow_add-d : goal.overflow_add-d
 overflow_add-d c =
     let own : Arena = lent_of c.args.a.now.lent in
-    let last : (let s = c.args in LastBlock own s.offset s.old s.old_align) = c.is_last_block.ensures (left-true refl c.if-not-is_last_block.false) in
-    let at_most : c.down_to_power-d.result ≤ c.args.old = let s = c.args in
-    omega (arith, c.down_to_power-d.ensures, down-at-most (s.old - s.new) c.max.result) in
+    let last : (let s = c.args in LastBlock own s.block.offset s.block.layout.size s.block.layout.align) = c.is_last_block.ensures (left-true refl c.if-not-is_last_block.false) in
+    let at_most : c.down_to_power-d.result ≤ c.args.block.layout.size = let s = c.args in
+    omega (arith, c.down_to_power-d.ensures, down-at-most (s.block.layout.size - s.new.size) c.max.result) in
     omega (arith, at_most, last.size_bound)
 
-pub returns-then-d-old : goal.returns-then-d-old
-returns-then-d-old c = λ p e. absurd (none-some p e)
+pub returns-then-d-block : goal.returns-then-d-block
+returns-then-d-block c = λ p e. absurd (none-some p e)
 
 pub overflow_add-result : goal.overflow_add-result
 overflow_add-result c =
     let own : Arena = lent_of c.args.a.now.lent in
-    let last : (let s = c.args in LastBlock own s.offset s.old s.old_align) = c.is_last_block.ensures (left-true refl c.if-not-is_last_block.false) in
-    let tested : (let s = c.args in ShrinkTested own s.offset s.old s.new s.new_align) = let s = c.args in
+    let last : (let s = c.args in LastBlock own s.block.offset s.block.layout.size s.block.layout.align) = c.is_last_block.ensures (left-true refl c.if-not-is_last_block.false) in
+    let tested : (let s = c.args in ShrinkTested own s.block.offset s.block.layout.size s.new.size s.new.align) = let s = c.args in
     record {
       request =
           record {
             sound = c.args.a.now.sound;
-            size_bound = omega (arith, c.if-old-new.false, last.size_bound);
-            align_allowed = ap allowed_align c.if-new_align-old_align.false ∙ last.align_allowed;
+            size_bound = omega (arith, c.if-block-new.false, last.size_bound);
+            align_allowed = ap allowed_align c.if-new-block.false ∙ last.align_allowed;
           };
-      inside = block_inside own s.offset s.old s.old_align c.args.a.now.sound last.block;
-      downwards = c.if-old-new.false;
+      inside = block_inside own s.block.offset s.block.layout.size s.block.layout.align c.args.a.now.sound last.block;
+      downwards = c.if-block-new.false;
     } in
-    let at_most : c.down_to_power-d.result ≤ c.args.old = let s = c.args in
-    omega (arith, c.down_to_power-d.ensures, down-at-most (s.old - s.new) c.max.result) in
+    let at_most : c.down_to_power-d.result ≤ c.args.block.layout.size = let s = c.args in
+    omega (arith, c.down_to_power-d.ensures, down-at-most (s.block.layout.size - s.new.size) c.max.result) in
     let t = tested in
     omega (arith, at_most, t.inside, (sound-open _ t.request.sound).head.region_bound)
 
 pub returns : goal.returns
 returns c =
     let own : Arena = lent_of c.args.a.now.lent in
-    let last : (let s = c.args in LastBlock own s.offset s.old s.old_align) = c.is_last_block.ensures (left-true refl c.if-not-is_last_block.false) in
-    let tested : (let s = c.args in ShrinkTested own s.offset s.old s.new s.new_align) = let s = c.args in
+    let last : (let s = c.args in LastBlock own s.block.offset s.block.layout.size s.block.layout.align) = c.is_last_block.ensures (left-true refl c.if-not-is_last_block.false) in
+    let tested : (let s = c.args in ShrinkTested own s.block.offset s.block.layout.size s.new.size s.new.align) = let s = c.args in
     record {
       request =
           record {
             sound = c.args.a.now.sound;
-            size_bound = omega (arith, c.if-old-new.false, last.size_bound);
-            align_allowed = ap allowed_align c.if-new_align-old_align.false ∙ last.align_allowed;
+            size_bound = omega (arith, c.if-block-new.false, last.size_bound);
+            align_allowed = ap allowed_align c.if-new-block.false ∙ last.align_allowed;
           };
-      inside = block_inside own s.offset s.old s.old_align c.args.a.now.sound last.block;
-      downwards = c.if-old-new.false;
+      inside = block_inside own s.block.offset s.block.layout.size s.block.layout.align c.args.a.now.sound last.block;
+      downwards = c.if-block-new.false;
     } in
     λ p e.
     let s = c.args in
     let a = own in
     let d = c.down_to_power-d.result in
-    let up : d ≡ given_up a.head.minimum s.old s.new s.new_align =
-    c.down_to_power-d.ensures ∙ ap (round_down (s.old - s.new)) c.max.ensures in
-    subst (λ (q : ℕ). answered_of a (record { answer = Ok q; change = Moved q }) ≡ shrink_of a a.head.region s.offset s.old s.old_align s.new s.new_align) (same_Some _ _ e)
+    let up : d ≡ given_up a.head.minimum s.block.layout.size s.new.size s.new.align =
+    c.down_to_power-d.ensures ∙ ap (round_down (s.block.layout.size - s.new.size)) c.max.ensures in
+    subst (λ (q : ℕ). answered_of a (record { answer = Ok q; change = Moved q }) ≡ shrink_of a a.head.region s.block.offset s.block.layout.size s.block.layout.align s.new.size s.new.align) (same_Some _ _ e)
     (placed-moved a
-    (shrinks-in-place a.head (held_of a) s.offset s.old s.old_align s.new s.new_align (omega (arith, c.if-new_align-old_align.false))
-    ∙ sym (ap (shrunk_in_place (held_of a) s.offset s.old) up)
-    ∙ goes-up (held_of a) s.offset s.old d last.stands_at_pointer (omega (arith, c.if-d-old.false)))
-    ∙ sym (last-shrinks a s.offset s.old s.old_align s.new s.new_align last tested))
+    (shrinks-in-place a.head (held_of a) s.block.offset s.block.layout.size s.block.layout.align s.new.size s.new.align (omega (arith, c.if-new-block.false))
+    ∙ sym (ap (shrunk_in_place (held_of a) s.block.offset s.block.layout.size) up)
+    ∙ goes-up (held_of a) s.block.offset s.block.layout.size d last.stands_at_pointer (omega (arith, c.if-d-block.false)))
+    ∙ sym (last-shrinks a s.block.offset s.block.layout.size s.block.layout.align s.new.size s.new.align last tested))

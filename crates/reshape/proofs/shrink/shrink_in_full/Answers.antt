@@ -26,63 +26,63 @@ pub returns-in-Err : goal.returns-in-Err
 unfolding shrink_bytes given after_given shrink_of
 returns-in-Err c =
     let own : Arena = lent_of c.args.a.now.lent in
-    let stopped : (let s = c.args in answered_of own c.refused.result ≡ shrink_of own (length s.region.now) s.offset s.old s.old_align s.new s.new_align) = let s = c.args in
+    let stopped : (let s = c.args in answered_of own c.refused.result ≡ shrink_of own (length s.region.now) s.block.offset s.block.layout.size s.block.layout.align s.new.size s.new.align) = let s = c.args in
     placed-refused own c.refused.ensures
     ∙ sym
-    (stopped-later own (lent_tests own (length s.region.now)) (change_tests own s.offset s.old s.old_align s.new s.new_align (ltb s.old s.new))
-    (shrink_in own.head (held_of own) s.offset s.old s.old_align s.new s.new_align)
+    (stopped-later own (lent_tests own (length s.region.now)) (change_tests own s.block.offset s.block.layout.size s.block.layout.align s.new.size s.new.align (ltb s.block.layout.size s.new.size))
+    (shrink_in own.head (held_of own) s.block.offset s.block.layout.size s.block.layout.align s.new.size s.new.align)
     (lent-own own c.args.a.now.sound c.requires) (tests-refuse _ (sym c.in-Err.is ∙ c.change_answer.ensures))) in
     let s = c.args in record {
       placed_by = stopped;
-      region_after = bytes-shown (λ (to : ℕ). carried s.region.now s.offset to s.new) s.region.now stopped (ap (λ (o : Answered ℕ). o.answer) c.refused.ensures);
+      region_after = bytes-shown (λ (to : ℕ). carried s.region.now s.block.offset to s.new.size) s.region.now stopped (ap (λ (o : Answered ℕ). o.answer) c.refused.ensures);
     }
 
 pub shrunk_block-got-requires : goal.shrunk_block-got-requires
 shrunk_block-got-requires c =
     let own : Arena = lent_of c.args.a.now.lent in
-    let passed : (let s = c.args in refused_by (shrink_tests own (length s.region.now) s.offset s.old s.old_align s.new s.new_align) ≡ None) = let s = c.args in
+    let passed : (let s = c.args in refused_by (shrink_tests own (length s.region.now) s.block.offset s.block.layout.size s.block.layout.align s.new.size s.new.align) ≡ None) = let s = c.args in
     passed-before (lent_tests own (length s.region.now))
-    (change_tests own s.offset s.old s.old_align s.new s.new_align (ltb s.old s.new))
+    (change_tests own s.block.offset s.block.layout.size s.block.layout.align s.new.size s.new.align (ltb s.block.layout.size s.new.size))
     (lent-own own c.args.a.now.sound c.requires)
     ∙ tests-pass _ (sym c.in_default.is ∙ c.change_answer.ensures) in
     let s = c.args in
-    shrink-tested (shrink-passes own (length s.region.now) s.offset s.old s.old_align s.new s.new_align passed)
+    shrink-tested (shrink-passes own (length s.region.now) s.block.offset s.block.layout.size s.block.layout.align s.new.size s.new.align passed)
 
 pub returns-in_default-answer : goal.returns-in_default-answer
 unfolding shrink_bytes after_given shrink_of
 returns-in_default-answer c =
     let own : Arena = lent_of c.args.a.now.lent in
-    let passed : (let s = c.args in refused_by (shrink_tests own (length s.region.now) s.offset s.old s.old_align s.new s.new_align) ≡ None) = let s = c.args in
+    let passed : (let s = c.args in refused_by (shrink_tests own (length s.region.now) s.block.offset s.block.layout.size s.block.layout.align s.new.size s.new.align) ≡ None) = let s = c.args in
     passed-before (lent_tests own (length s.region.now))
-    (change_tests own s.offset s.old s.old_align s.new s.new_align (ltb s.old s.new))
+    (change_tests own s.block.offset s.block.layout.size s.block.layout.align s.new.size s.new.align (ltb s.block.layout.size s.new.size))
     (lent-own own c.args.a.now.sound c.requires)
     ∙ tests-pass _ (sym c.in_default.is ∙ c.change_answer.ensures) in
-    let answered : (let s = c.args in answered_of own c.shrunk_block-got.result ≡ shrink_of own (length s.region.now) s.offset s.old s.old_align s.new s.new_align) = let s = c.args in
+    let answered : (let s = c.args in answered_of own c.shrunk_block-got.result ≡ shrink_of own (length s.region.now) s.block.offset s.block.layout.size s.block.layout.align s.new.size s.new.align) = let s = c.args in
     c.shrunk_block-got.ensures
     ∙ sym
-    (ap (λ o. given o own (shrink_in own.head (held_of own) s.offset s.old s.old_align s.new s.new_align)) passed) in
+    (ap (λ o. given o own (shrink_in own.head (held_of own) s.block.offset s.block.layout.size s.block.layout.align s.new.size s.new.align)) passed) in
     let s = c.args in
     record {
       placed_by = answered;
-      region_after = bytes-shown (λ (to : ℕ). carried s.region.now s.offset to s.new) s.region.now answered c.in_default-answer.is;
+      region_after = bytes-shown (λ (to : ℕ). carried s.region.now s.block.offset to s.new.size) s.region.now answered c.in_default-answer.is;
     }
 
 pub carry-requires : goal.carry-requires
 unfolding shrink_of
 carry-requires c =
     let own : Arena = lent_of c.args.a.now.lent in
-    let passed : (let s = c.args in refused_by (shrink_tests own (length s.region.now) s.offset s.old s.old_align s.new s.new_align) ≡ None) = let s = c.args in
+    let passed : (let s = c.args in refused_by (shrink_tests own (length s.region.now) s.block.offset s.block.layout.size s.block.layout.align s.new.size s.new.align) ≡ None) = let s = c.args in
     passed-before (lent_tests own (length s.region.now))
-    (change_tests own s.offset s.old s.old_align s.new s.new_align (ltb s.old s.new))
+    (change_tests own s.block.offset s.block.layout.size s.block.layout.align s.new.size s.new.align (ltb s.block.layout.size s.new.size))
     (lent-own own c.args.a.now.sound c.requires)
     ∙ tests-pass _ (sym c.in_default.is ∙ c.change_answer.ensures) in
-    let answered : (let s = c.args in answered_of own c.shrunk_block-got.result ≡ shrink_of own (length s.region.now) s.offset s.old s.old_align s.new s.new_align) = let s = c.args in
+    let answered : (let s = c.args in answered_of own c.shrunk_block-got.result ≡ shrink_of own (length s.region.now) s.block.offset s.block.layout.size s.block.layout.align s.new.size s.new.align) = let s = c.args in
     c.shrunk_block-got.ensures
     ∙ sym
-    (ap (λ o. given o own (shrink_in own.head (held_of own) s.offset s.old s.old_align s.new s.new_align)) passed) in
+    (ap (λ o. given o own (shrink_in own.head (held_of own) s.block.offset s.block.layout.size s.block.layout.align s.new.size s.new.align)) passed) in
     let s = c.args in
     let (is, down) =
-    shrink-served own (length s.region.now) s.offset s.old s.old_align s.new s.new_align
+    shrink-served own (length s.region.now) s.block.offset s.block.layout.size s.block.layout.align s.new.size s.new.align
     (sym (ap (λ (o : Allocation). o.answer) answered) ∙ c.in-Ok.is) in
     (omega (arith, is.source), omega (arith, is.room))
 
@@ -90,17 +90,17 @@ pub returns : goal.returns
 unfolding shrink_bytes after_given shrink_of
 returns c =
     let own : Arena = lent_of c.args.a.now.lent in
-    let passed : (let s = c.args in refused_by (shrink_tests own (length s.region.now) s.offset s.old s.old_align s.new s.new_align) ≡ None) = let s = c.args in
+    let passed : (let s = c.args in refused_by (shrink_tests own (length s.region.now) s.block.offset s.block.layout.size s.block.layout.align s.new.size s.new.align) ≡ None) = let s = c.args in
     passed-before (lent_tests own (length s.region.now))
-    (change_tests own s.offset s.old s.old_align s.new s.new_align (ltb s.old s.new))
+    (change_tests own s.block.offset s.block.layout.size s.block.layout.align s.new.size s.new.align (ltb s.block.layout.size s.new.size))
     (lent-own own c.args.a.now.sound c.requires)
     ∙ tests-pass _ (sym c.in_default.is ∙ c.change_answer.ensures) in
-    let answered : (let s = c.args in answered_of own c.shrunk_block-got.result ≡ shrink_of own (length s.region.now) s.offset s.old s.old_align s.new s.new_align) = let s = c.args in
+    let answered : (let s = c.args in answered_of own c.shrunk_block-got.result ≡ shrink_of own (length s.region.now) s.block.offset s.block.layout.size s.block.layout.align s.new.size s.new.align) = let s = c.args in
     c.shrunk_block-got.ensures
     ∙ sym
-    (ap (λ o. given o own (shrink_in own.head (held_of own) s.offset s.old s.old_align s.new s.new_align)) passed) in
+    (ap (λ o. given o own (shrink_in own.head (held_of own) s.block.offset s.block.layout.size s.block.layout.align s.new.size s.new.align)) passed) in
     let s = c.args in record {
       placed_by = answered;
       region_after = c.carry.ensures
-          ∙ bytes-shown (λ (to : ℕ). carried s.region.now s.offset to s.new) s.region.now answered c.in-Ok.is;
+          ∙ bytes-shown (λ (to : ℕ). carried s.region.now s.block.offset to s.new.size) s.region.now answered c.in-Ok.is;
     }
