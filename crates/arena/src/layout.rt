@@ -1,4 +1,4 @@
-// What a call says of a block.
+// What a call says of a block. The calls of document 01 and the entries for C are promised with these numbers one by one; beneath them they go together.
 
 // A block's size and alignment.
 #[derive(Clone, Copy)]
