@@ -23,7 +23,8 @@ use Rattle.arena.specs.Numbers.{step, places, most, largest_align, largest_minim
 use Rattle.arena.specs.Record.{end_of, past_of, held_of}
 use Rattle.arena.specs.Sound.{allowed_align, allowed_minimum, limit_formed, head_sound, chunk_sound, clear, apart, unused_zero, table_sound, sound_of}
 use Rattle.arena.specs.declared.lent.Lent.{Lent}
-use Rattle.arena.specs.Inner.{Ready, ascending, lent_of}
+use Rattle.arena.specs.declared.lent.Inside.{Inside}
+use Rattle.arena.specs.Inner.{Ready, is_ready, ascending, lent_of}
 use Rattle.rounding.proofs.Every.{every-open, every-shut, every_map}
 
 -- a power of two that is at most `top`
@@ -298,3 +299,23 @@ sound-ready {a} s =
 -- a lent record that is known to be sound is ready for the ladder and for placing
 pub lent-ready : (l : Lent) → sound_of (lent_of l) ≡ true → Ready l.head (held_of (lent_of l))
 lent-ready l t = sound-ready (sound-open (lent_of l) t)
+
+pub ready-open : (h : Head) (cs : List Chunk) → is_ready h cs ≡ true → Ready h cs
+unfolding is_ready
+ready-open h cs t =
+    let rest = and_right (leb h.region most) _ t in
+    record {
+      region_bound = leb-true h.region most (and_left _ _ t);
+      count_bound = leb-true h.count places (and_left _ _ rest);
+      inside = every_map (λ c l. leb-true (past_of c) h.region l) cs (every-open (λ c. leb (past_of c) h.region) cs (and_right (leb h.count places) _ rest));
+    }
+
+pub ready-shut : {h : Head} {cs : List Chunk} → Ready h cs → is_ready h cs ≡ true
+unfolding is_ready
+ready-shut {h} {cs} r =
+    and_both (le-leb h.region most r.region_bound)
+    (and_both (le-leb h.count places r.count_bound)
+    (every-shut (λ c. leb (past_of c) h.region) cs (every_map (λ c l. le-leb (past_of c) h.region l) cs r.inside)))
+
+pub inside-ready : (i : Inside) → Ready i.lent.head (held_of (lent_of i.lent))
+inside-ready i = ready-open i.lent.head (held_of (lent_of i.lent)) i.ready

@@ -21,6 +21,10 @@ pub record Ready (h : Head) (cs : List Chunk) : Type 0 where
   pub count_bound : h.count ≤ places
   pub inside : Each (λ c. past_of c ≤ h.region) cs
 
+-- the same as a test
+unfoldable pub is_ready : Head → List Chunk → Bool
+is_ready h cs = leb h.region most && (leb h.count places && every (λ c. leb (past_of c) h.region) cs)
+
 -- the record that is lent in these parts
 abbrev pub lent_of : Lent → Arena
 lent_of l = record_of l.head l.starts.now l.sizes.now l.pointers.now

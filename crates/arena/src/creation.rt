@@ -7,7 +7,8 @@ ghost use Rattle.arena.specs.Creation.{refused_creation, created_of};
 
 use crate::ladder::take_rung;
 use crate::layout::{Allowed, Layout};
-use crate::sound::{Sound, is_allowed_minimum};
+use crate::lent::Inside;
+use crate::sound::is_allowed_minimum;
 use crate::{Arena, Chunk, Head, Outcome, Refusal};
 
 // The record of this head with no chunk.
@@ -90,10 +91,10 @@ impl Arena {
             align: minimum,
         };
         let request = Allowed { layout };
-        let sound = Sound {
+        let inside = Inside {
             lent: fresh.lent(),
         };
-        let got = take_rung(&sound, 0, request, Arena::DEFAULT_SIZE);
+        let got = take_rung(&inside, 0, request, Arena::DEFAULT_SIZE);
         let Some(c) = got else {
             return refused_creation(Refusal::Room);
         };

@@ -5,12 +5,12 @@ ghost use Rattle.arena.specs.Ladder.{held_bytes, first_base, tried, under_limit,
 ghost use Rattle.arena.specs.Inner.{lent_of};
 
 use crate::layout::Allowed;
+use crate::lent::Inside;
 use crate::placing::lowest_place;
 use crate::sizing::usable_size;
-use crate::sound::Sound;
 use crate::{Arena, Chunk, Head};
 
-pub fn held_bytes(a: &Sound) -> usize
+pub fn held_bytes(a: &Inside) -> usize
     ensures { result ≡ held_bytes (held_of (lent_of a.now.lent)) }
 {
     let count = a.lent.head.count;
@@ -22,11 +22,11 @@ pub fn held_bytes(a: &Sound) -> usize
     held
 }
 
-fn first_base(a: &Sound, size: usize) -> usize
+fn first_base(a: &Inside, size: usize) -> usize
     ensures { result ≡ first_base (held_of (lent_of a.now.lent)) size }
 {
     let floor = size.max(Arena::DEFAULT_SIZE);
-    let Some(c) = a.current() else {
+    let Some(c) = a.lent.current() else {
         return floor;
     };
     (2 * c.size).max(floor)
@@ -66,7 +66,7 @@ fn is_under_limit(h: Head, held: usize, n: usize) -> bool
 }
 
 // The chunk that a rung gives. The held bytes are handed in, since they are the same at every rung.
-pub fn take_rung(a: &Sound, held: usize, request: Allowed, base: usize) -> Option<Chunk>
+pub fn take_rung(a: &Inside, held: usize, request: Allowed, base: usize) -> Option<Chunk>
     requires base_bound { base ≤ 2 ^ 31 }
     requires held_value { held ≡ held_bytes (held_of (lent_of a.now.lent)) }
     ensures { result ≡ rung_chunk a.now.lent.head (held_of (lent_of a.now.lent)) request.layout.size request.layout.align base }
@@ -87,7 +87,7 @@ pub fn take_rung(a: &Sound, held: usize, request: Allowed, base: usize) -> Optio
     })
 }
 
-pub fn climb(a: &Sound, request: Allowed) -> Option<Chunk>
+pub fn climb(a: &Inside, request: Allowed) -> Option<Chunk>
     ensures { result ≡ ladder a.now.lent.head (held_of (lent_of a.now.lent)) request.layout.size request.layout.align }
 {
     let h = a.lent.head;

@@ -1,4 +1,4 @@
-// What a call says of a block.
+// What a call says of a block. The calls of document 01 and the entries for C are promised with these numbers one by one; beneath them they go together.
 ghost use Rattle.std.specs.Prelude.{◌≡◌, true, ◌≤◌};
 ghost use Rattle.arena.specs.Numbers.{most};
 ghost use Rattle.arena.specs.Sound.{allowed_align};

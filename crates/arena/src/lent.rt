@@ -1,9 +1,9 @@
 // A record that is lent for reading, in the four parts that a host's record stands in: one by value would be copied whole for each number read.
-ghost use Rattle.std.specs.Prelude.{◌≡◌, ◌&&◌, ◌<◌, ◌≤◌, eqb};
+ghost use Rattle.std.specs.Prelude.{◌≡◌, true, ◌&&◌, ◌<◌, ◌≤◌, eqb};
 ghost use Rattle.arena.specs.Numbers.{places};
 ghost use Rattle.arena.specs.Record.{chunk_at, held_of};
 ghost use Rattle.arena.specs.Sound.{table_sound};
-ghost use Rattle.arena.specs.Inner.{lent_of, current_of};
+ghost use Rattle.arena.specs.Inner.{lent_of, current_of, is_ready};
 
 use crate::{Arena, Chunk, Head};
 
@@ -14,6 +14,13 @@ pub struct Lent<'a> {
     pub starts: &'a [usize; 32],
     pub sizes: &'a [usize; 32],
     pub pointers: &'a [usize; 32],
+}
+
+// A lent record whose chunks stand inside its region. The ladder and placing lean on nothing more, and the test of soundness gets so far before its end.
+#[derive(Clone, Copy)]
+pub struct Inside<'a> {
+    pub lent: Lent<'a>,
+    ghost ready: { is_ready lent.head (held_of (lent_of lent)) ≡ true },
 }
 
 impl<'a> Lent<'a> {

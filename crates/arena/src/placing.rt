@@ -6,7 +6,7 @@ ghost use Rattle.arena.specs.Record.{past_of, held_of};
 ghost use Rattle.arena.specs.Placing.{misses, lowest_place};
 ghost use Rattle.arena.specs.Inner.{lent_of, Passed};
 
-use crate::sound::Sound;
+use crate::lent::Inside;
 use crate::{Arena, Chunk};
 
 fn is_clear_of(at: usize, length: usize, c: Chunk) -> bool
@@ -20,7 +20,7 @@ fn is_clear_of(at: usize, length: usize, c: Chunk) -> bool
 }
 
 // Goes once through the table and passes each chunk that stands in the way of length bytes.
-fn past_chunks(a: &Sound, align: usize, length: usize, from: usize) -> usize
+fn past_chunks(a: &Inside, align: usize, length: usize, from: usize) -> usize
     requires { (0 < align) × (align ≤ largest_align) × (align ∣ from) × (from ≤ a.now.lent.head.region) × (length ≤ a.now.lent.head.region) }
     ensures { Passed (held_of (lent_of a.now.lent)) align length from result }
 {
@@ -36,7 +36,7 @@ fn past_chunks(a: &Sound, align: usize, length: usize, from: usize) -> usize
     at
 }
 
-pub fn lowest_place(a: &Sound, align: usize, n: usize) -> Option<usize>
+pub fn lowest_place(a: &Inside, align: usize, n: usize) -> Option<usize>
     requires { (0 < align) × (align ≤ largest_align) × (n < 2 ^ 63) }
     ensures { result ≡ lowest_place a.now.lent.head.region (held_of (lent_of a.now.lent)) align n }
 {

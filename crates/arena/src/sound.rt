@@ -14,9 +14,9 @@ ghost use Rattle.arena.specs.Sound.{
   apart,
   sound_of,
 };
-ghost use Rattle.arena.specs.Inner.{lent_of, current_of, Ready, ascending};
+ghost use Rattle.arena.specs.Inner.{lent_of, current_of, ascending};
 
-use crate::lent::Lent;
+use crate::lent::{Inside, Lent};
 use crate::{Arena, Chunk, Head};
 
 // These two are document 01's two lists, each with its own largest.
@@ -137,15 +137,13 @@ fn are_clear(c: Chunk, d: Chunk) -> bool
 }
 
 // Place i and the places before it.
-// Of a record that is not known to be sound yet: no type says so much of it, and `Ready` is asked.
-fn is_clear_of_earlier(a: &Lent, i: usize) -> bool
-    requires ready { Ready a.now.head (held_of (lent_of a.now)) }
-    requires i_lt_count { i < a.now.head.count }
-    ensures { result ≡ every (clear (chunk_at a.now.starts.now a.now.sizes.now a.now.pointers.now i)) (chunks_of a.now.starts.now a.now.sizes.now a.now.pointers.now i) }
+fn is_clear_of_earlier(a: &Inside, i: usize) -> bool
+    requires { i < a.now.lent.head.count }
+    ensures { result ≡ every (clear (chunk_at a.now.lent.starts.now a.now.lent.sizes.now a.now.lent.pointers.now i)) (chunks_of a.now.lent.starts.now a.now.lent.sizes.now a.now.lent.pointers.now i) }
 {
-    let c = a.chunk_at(i);
+    let c = a.lent.chunk_at(i);
     for j in 0..i {
-        let d = a.chunk_at(j);
+        let d = a.lent.chunk_at(j);
         if !are_clear(c, d) {
             return false;
         }
@@ -153,11 +151,10 @@ fn is_clear_of_earlier(a: &Lent, i: usize) -> bool
     true
 }
 
-fn are_apart(a: &Lent) -> bool
-    requires { Ready a.now.head (held_of (lent_of a.now)) }
-    ensures { result ≡ apart (held_of (lent_of a.now)) }
+fn are_apart(a: &Inside) -> bool
+    ensures { result ≡ apart (held_of (lent_of a.now.lent)) }
 {
-    let count = a.head.count;
+    let count = a.lent.head.count;
     // By places: each is held against those before it.
     for i in 0..count {
         if !is_clear_of_earlier(a, i) {
@@ -183,7 +180,7 @@ pub fn is_sound(a: &Lent) -> bool
     if !are_chunks_sound(a) {
         return false;
     }
-    are_apart(a)
+    are_apart(&Inside { lent: *a })
 }
 
 // A lent record that is known to be sound.

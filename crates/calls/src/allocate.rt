@@ -13,6 +13,7 @@ use crate::refusals::lent_sound;
 use arena::change::Change;
 use arena::ladder::climb;
 use arena::layout::{Allowed, Layout};
+use arena::lent::Inside;
 use arena::sound::{Sound, is_allowed_align};
 use arena::{Arena, Chunk, Outcome, Refusal};
 
@@ -32,7 +33,7 @@ impl Answered<usize> {
 fn placed_slow(a: &Sound, request: Allowed) -> Answered<usize>
     ensures { AnsweredBy (λ r. given None r (new_chunk_gives r.head.minimum (held_of r) (ladder r.head (held_of r) request.layout.size request.layout.align) request.layout.size request.layout.align)) (lent_of a.now.lent) result }
 {
-    let Some(c) = climb(a, request) else {
+    let Some(c) = climb(&Inside { lent: a.lent }, request) else {
         return Answered::refused(Refusal::Room);
     };
     let Some(pointer) = chunk_gives(a.lent.head.minimum, c, request) else {

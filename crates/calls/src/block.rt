@@ -10,6 +10,7 @@ ghost use Rattle.calls.specs.Inner.{LastBlock};
 
 use arena::Chunk;
 use arena::layout::Block;
+use arena::lent::Inside;
 use arena::sound::{Sound, is_allowed_align};
 
 fn has_block(c: Chunk, offset: usize, size: usize) -> bool
@@ -30,7 +31,7 @@ fn has_block(c: Chunk, offset: usize, size: usize) -> bool
 }
 
 // The newest chunk is asked first: most calls name a block that was given out lately.
-pub fn is_acceptable(a: &Sound, block: Block) -> bool
+pub fn is_acceptable(a: &Inside, block: Block) -> bool
     requires { one_bit block.layout.align ≡ true }
     ensures { result ≡ acceptable (held_of (lent_of a.now.lent)) block.offset block.layout.size block.layout.align }
 {

@@ -9,6 +9,7 @@ use crate::Answered;
 use crate::block::is_acceptable;
 use arena::change::Change;
 use arena::layout::{Block, Layout};
+use arena::lent::Inside;
 use arena::lent::Lent;
 use arena::sound::{Sound, is_allowed_align};
 use arena::{Arena, Refusal};
@@ -45,7 +46,7 @@ pub fn block_answer(a: &Sound, block: Block) -> Result<(), Refusal>
     if !is_allowed_align(block.layout.align) {
         return Err(Refusal::Align);
     }
-    if !is_acceptable(a, block) {
+    if !is_acceptable(&Inside { lent: a.lent }, block) {
         return Err(Refusal::Block);
     }
     Ok(())
@@ -67,7 +68,7 @@ pub fn change_answer(a: &Sound, block: Block, new: Layout, backwards: bool) -> R
     if !is_allowed_align(new.align) {
         return Err(Refusal::Align);
     }
-    if !is_acceptable(a, block) {
+    if !is_acceptable(&Inside { lent: a.lent }, block) {
         return Err(Refusal::Block);
     }
     if backwards {

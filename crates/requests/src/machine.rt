@@ -17,6 +17,7 @@ use crate::window::{LINE, Progress, run_window};
 use crate::{Ending, Stage};
 use arena::creation::emptied;
 use arena::ladder::held_bytes;
+use arena::lent::Inside;
 use arena::sound::is_sound;
 use arena::{Arena, Head};
 
@@ -231,6 +232,6 @@ pub fn finish(state: State, rest: &[u8], out: &mut [u8]) -> usize
         return 0;
     };
     let ended = put_ending(out, state.stage, state.number, rest);
-    let held = held_bytes(&sound);
+    let held = held_bytes(&Inside { lent: sound.lent });
     put_held(out, ended, held, state.arena.head.count)
 }

@@ -6,6 +6,7 @@ ghost use Rattle.std.specs.Prelude.{◌≡◌, IfSome};
 
 use arena::ladder::{climb, held_bytes, take_rung};
 use arena::layout::{Allowed, Layout};
+use arena::lent::Inside;
 use arena::placing::lowest_place;
 use arena::sizing::usable_size;
 use arena::sound::is_allowed_align;
@@ -60,23 +61,26 @@ fn ask_usable(base: usize, layout: Layout) -> Option<Said> {
 // One rung, whether the ladder comes to it or not.
 fn ask_rung(a: Arena, base: usize, layout: Layout) -> Option<Said> {
     let sound = a.sound()?;
+    let inside = Inside { lent: sound.lent };
     if Arena::MOST < base {
         return None;
     }
     let request = allowed(layout)?;
-    let held = held_bytes(&sound);
-    let got = take_rung(&sound, held, request, base);
+    let held = held_bytes(&inside);
+    let got = take_rung(&inside, held, request, base);
     Some(Said::Rung(got.ok_or(usable_size(base, request))))
 }
 
 fn ask_ladder(a: Arena, layout: Layout) -> Option<Said> {
     let sound = a.sound()?;
+    let inside = Inside { lent: sound.lent };
     let request = allowed(layout)?;
-    Some(Said::Ladder(climb(&sound, request)))
+    Some(Said::Ladder(climb(&inside, request)))
 }
 
 fn ask_place(a: Arena, n: usize, multiple: usize) -> Option<Said> {
     let sound = a.sound()?;
+    let inside = Inside { lent: sound.lent };
     if Arena::MOST < n {
         return None;
     }
@@ -86,7 +90,7 @@ fn ask_place(a: Arena, n: usize, multiple: usize) -> Option<Said> {
     if Arena::LARGEST_ALIGN < multiple {
         return None;
     }
-    Some(Said::Place(lowest_place(&sound, multiple, n)))
+    Some(Said::Place(lowest_place(&inside, multiple, n)))
 }
 
 // No Display: where no rule was asked there is no value.

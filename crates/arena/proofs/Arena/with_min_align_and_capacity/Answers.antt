@@ -1,22 +1,23 @@
 -- `arena::Arena::with_min_align_and_capacity` meets its contract: each way out is one clause of the definition. Assumes nothing.
-use Prim.Native.Nat.{ℕ, ◌≤◌}
+use Prim.Native.Nat.{ℕ, ◌≤◌, zero-le}
 use native.Mathlib.Omega.{arith}
 use mathlib.Core.Bool.{true}
 use mathlib.Core.List.{[]}
-use mathlib.Core.Path.{◌≡◌, refl, sym, ◌∙◌, ap}
+use mathlib.Core.Path.{◌≡◌, refl, sym, subst, ◌∙◌, ap}
 use Rattle.rounding.proofs.Tests.{taken_false, left-true}
 use Rattle.std.specs.Prelude.{Option, Ok}
 use Rattle.arena.specs.Numbers.{most}
 use Rattle.arena.specs.Record.{chunks_of, held_of, holding}
-use Rattle.arena.specs.Sound.{allowed_minimum, limit_formed, sound_of}
+use Rattle.arena.specs.Sound.{allowed_minimum, limit_formed}
 use Rattle.arena.specs.Ladder.{held_bytes, rung_chunk}
+use Rattle.arena.specs.Inner.{Ready}
 use Rattle.arena.specs.declared.Arena.{Arena}
 use Rattle.arena.specs.declared.Chunk.{Chunk}
 use Rattle.arena.specs.declared.Head.{Head}
 use Rattle.arena.specs.Creation.{fresh_head}
 use Rattle.arena.proofs.Emptied.{emptied-sound, emptied-count, emptied-taken}
 use Rattle.arena.proofs.Made.{region-too-long, capacity-too-large, minimum-not-allowed, made-empty, made-no-room, made_one}
-use Rattle.arena.proofs.Soundness.{Settings, minimum-open, align-shut}
+use Rattle.arena.proofs.Soundness.{ready-shut, Settings, minimum-open, align-shut}
 use Rattle.arena.proofs.Arena.with_min_align_and_capacity.Goals as goal
 
 -- the rung of a record that holds no chunk
@@ -46,15 +47,12 @@ returns-then-capacity-eq0 c =
     (λ i. record { answer = Ok tt; arena = c.emptied-fresh.ensures i })
     ∙ sym (made-empty _ _ _ region_bound capacity-bound minimum-allowed c.if-capacity-eq0.true)
 
-pub invariant_of-sound : goal.invariant_of-sound
-unfolding limit_formed
-invariant_of-sound c =
+pub invariant_of-inside : goal.invariant_of-inside
+unfolding holding chunks_of
+invariant_of-inside c =
     let region_bound : c.args.region ≤ most = c.if-region-gt-MOST.false in
-    let minimum-allowed : allowed_minimum c.args.minimum ≡ true = left-true c.is_allowed_minimum.ensures c.if-not-is_allowed_minimum.false in
-    let minimum = minimum-open _ minimum-allowed in
-    let fresh : Settings (fresh_head c.args.region c.args.minimum) =
-    record { minimum-power = minimum.power; minimum-bound = minimum.bound; region_bound = region_bound; limit-formed = refl } in
-    record { sound = ap sound_of c.lent.ensures ∙ emptied-sound fresh c.emptied-fresh.ensures; }
+    let fresh = c.lent.ensures ∙ c.emptied-fresh.ensures in
+    record { ready = ready-shut (subst (λ (a : Arena). Ready a.head (held_of a)) (sym fresh) (record { region_bound = region_bound; count_bound = zero-le; inside = tt })) }
 
 pub invariant_of-request : goal.invariant_of-request
 invariant_of-request c =

@@ -7,7 +7,7 @@ use mathlib.Core.Path.{◌≡◌, sym, ◌∙◌, ap}
 use Rattle.arena.specs.Ladder.{held_bytes, tried, first_base}
 use Rattle.arena.specs.Inner.{lent_of}
 use Rattle.arena.proofs.Rungs.{climb-starts, climb-bound, climb-served, climb-out, climb-ends, climb-on, first-base-bound}
-use Rattle.arena.proofs.Soundness.{lent-ready}
+use Rattle.arena.proofs.Soundness.{inside-ready}
 use Rattle.arena.proofs.ladder.climb.Goals as goal
 use Rattle.arena.specs.Record.{held_of}
 
@@ -17,7 +17,7 @@ loop-request-init c =
 
 pub take_rung-requires : goal.take_rung-requires
 take_rung-requires c =
-    let first-bound : (first_base (held_of (lent_of c.args.a.now.lent)) c.args.request.layout.size ≤ 2 ^ 31) = first-base-bound _ (lent-ready c.args.a.now.lent c.args.a.now.sound).inside (lent-ready c.args.a.now.lent c.args.a.now.sound).region_bound c.args.request.size in
+    let first-bound : (first_base (held_of (lent_of c.args.a.now.lent)) c.args.request.layout.size ≤ 2 ^ 31) = first-base-bound _ (inside-ready c.args.a.now).inside (inside-ready c.args.a.now).region_bound c.args.request.size in
     record {
       base_bound = le_trans (climb-bound _ _ _ _ c.loop-request.invariant) first-bound;
       held_value = c.held_bytes-held.ensures;
@@ -39,7 +39,7 @@ loop-request-smaller c = omega (arith, c.if-base-eq0.false)
 pub loop-request-preserved : goal.loop-request-preserved
 loop-request-preserved c =
     let tested : (c.is_tried.result ≡ tried c.args.a.now.lent.head (held_bytes (held_of (lent_of c.args.a.now.lent))) c.args.request.layout.size c.loop-request.base) = c.is_tried.ensures ∙ ap (λ (held : ℕ). tried c.args.a.now.lent.head held c.args.request.layout.size c.loop-request.base) c.held_bytes-held.ensures in
-    let first-bound : (first_base (held_of (lent_of c.args.a.now.lent)) c.args.request.layout.size ≤ 2 ^ 31) = first-base-bound _ (lent-ready c.args.a.now.lent c.args.a.now.sound).inside (lent-ready c.args.a.now.lent c.args.a.now.sound).region_bound c.args.request.size in
+    let first-bound : (first_base (held_of (lent_of c.args.a.now.lent)) c.args.request.layout.size ≤ 2 ^ 31) = first-base-bound _ (inside-ready c.args.a.now).inside (inside-ready c.args.a.now).region_bound c.args.request.size in
     climb-on _ _ _ _ c.loop-request.invariant (omega (arith, first-bound)) c.if-base-eq0.false (sym tested ∙ c.loop-request-test.true)
     (sym c.take_rung.ensures ∙ c.in_default.is)
 

@@ -4,8 +4,11 @@ use native.Mathlib.Omega.{arith}
 use mathlib.Core.Path.{sym, ◌∙◌, ap}
 use Rattle.arena.proofs.Current.{none-current, current-is}
 use Rattle.arena.proofs.Rungs.{first-base-none, first-base-current, current-within}
-use Rattle.arena.proofs.Soundness.{lent-ready}
+use Rattle.arena.proofs.Soundness.{inside-ready}
 use Rattle.arena.proofs.ladder.first_base.Goals as goal
+
+pub current-requires : goal.current-requires
+current-requires c = (inside-ready c.args.a.now).count_bound
 
 pub returns-in_default : goal.returns-in_default
 returns-in_default c =
@@ -13,8 +16,8 @@ returns-in_default c =
 
 pub overflow_mul-c : goal.overflow_mul-c
 overflow_mul-c c =
-    let here = current-within _ (lent-ready c.args.a.now.lent c.args.a.now.sound).inside (current-is _ (sym c.current.ensures ∙ c.in-Some.is)) in
-    omega (arith, here, (lent-ready c.args.a.now.lent c.args.a.now.sound).region_bound)
+    let here = current-within _ (inside-ready c.args.a.now).inside (current-is _ (sym c.current.ensures ∙ c.in-Some.is)) in
+    omega (arith, here, (inside-ready c.args.a.now).region_bound)
 
 pub returns : goal.returns
 returns c =

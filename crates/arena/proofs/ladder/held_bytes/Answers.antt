@@ -12,7 +12,7 @@ use Rattle.arena.specs.Numbers.{most}
 use Rattle.arena.specs.Inner.{Ready}
 use Rattle.arena.proofs.View.{chunks-at}
 use Rattle.arena.proofs.Rungs.{held_more}
-use Rattle.arena.proofs.Soundness.{lent-ready}
+use Rattle.arena.proofs.Soundness.{inside-ready}
 use Rattle.arena.proofs.ladder.held_bytes.Goals as goal
 
 -- a held chunk is no longer than the largest region
@@ -27,17 +27,17 @@ unfolding held_bytes chunks_of
 loop-i-init c = (zero-le, refl, zero-le)
 
 pub chunk_at-held-requires : goal.chunk_at-held-requires
-chunk_at-held-requires c = omega (arith, (lent-ready c.args.a.now.lent c.args.a.now.sound).count_bound)
+chunk_at-held-requires c = omega (arith, (inside-ready c.args.a.now).count_bound)
 
 pub overflow_add-held : goal.overflow_add-held
 overflow_add-held c =
-    omega (arith, size-within _ _ _ (lent-ready c.args.a.now.lent c.args.a.now.sound) c.loop-i-test.true c.chunk_at-held.ensures, (lent-ready c.args.a.now.lent c.args.a.now.sound).count_bound)
+    omega (arith, size-within _ _ _ (inside-ready c.args.a.now) c.loop-i-test.true c.chunk_at-held.ensures, (inside-ready c.args.a.now).count_bound)
 
 pub loop-i-preserved : goal.loop-i-preserved
 loop-i-preserved c =
     let i = c.loop-i.i in
     let one_more = held_more c.args.a.now.lent.starts.now c.args.a.now.lent.sizes.now c.args.a.now.lent.pointers.now i in
-    let here = size-within _ _ _ (lent-ready c.args.a.now.lent c.args.a.now.sound) c.loop-i-test.true c.chunk_at-held.ensures in
+    let here = size-within _ _ _ (inside-ready c.args.a.now) c.loop-i-test.true c.chunk_at-held.ensures in
     (omega arith, rw (add-one, one_more, c.chunk_at-held.ensures) (omega arith), omega (arith, here))
 
 pub returns : goal.returns

@@ -6,10 +6,11 @@ use Rattle.arena.specs.Placing.{lowest_place}
 use Rattle.arena.specs.Ladder.{new_chunk, rung_chunk}
 use Rattle.arena.specs.Inner.{lent_of}
 use Rattle.arena.proofs.Lowest.{lowest-fits}
-use Rattle.arena.proofs.Soundness.{align-open, lent-ready}
+use Rattle.arena.proofs.Soundness.{align-open}
 use Rattle.arena.proofs.Usable.{usable-bound}
 use Rattle.arena.proofs.View.{length-chunks}
 use Rattle.arena.proofs.Rungs.{rung-over-limit, rung-table-full, rung-placed}
+use Rattle.arena.proofs.Soundness.{inside-ready}
 use Rattle.arena.proofs.ladder.take_rung.Goals as goal
 use Rattle.arena.specs.Record.{held_of}
 
@@ -44,7 +45,7 @@ overflow_add-result c =
     let align = align-open c.args.request.layout.align c.args.request.align in
     let found = sym c.lowest_place.ensures ∙ c.in_ok-start.was in
     let fits = (lowest-fits c.args.a.now.lent.head.region _ _ {a = c.max.result} (omega arith) found).1 in
-    omega (arith, fits.inside, (lent-ready c.args.a.now.lent c.args.a.now.sound).region_bound)
+    omega (arith, fits.inside, (inside-ready c.args.a.now).region_bound)
 
 pub returns : goal.returns
 returns c =

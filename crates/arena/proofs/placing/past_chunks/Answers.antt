@@ -18,7 +18,7 @@ use Rattle.arena.specs.Placing.{misses}
 use Rattle.arena.specs.Inner.{Passed}
 use Rattle.arena.proofs.View.{chunks-at}
 use Rattle.arena.proofs.Lowest.{misses-open, misses-shut}
-use Rattle.arena.proofs.Soundness.{lent-ready}
+use Rattle.arena.proofs.Soundness.{inside-ready}
 use Rattle.arena.proofs.placing.past_chunks.Goals as goal
 use Rattle.arena.proofs.placing.past_chunks.Goals.{then-not-is_clear_of, else-not-is_clear_of}
 
@@ -63,46 +63,46 @@ module _ {cs : List Chunk} {align length from at : ℕ} (c : Chunk) (p : Passed 
 
 pub loop-i-init : goal.loop-i-init
 unfolding chunks_of
-loop-i-init c = (omega arith, omega (arith, (lent-ready c.args.a.now.lent c.args.a.now.sound).region_bound), none_passed c.args.length c.requires.2)
+loop-i-init c = (omega arith, omega (arith, (inside-ready c.args.a.now).region_bound), none_passed c.args.length c.requires.2)
 
 pub chunk_at-c-requires : goal.chunk_at-c-requires
-chunk_at-c-requires c = omega (arith, (lent-ready c.args.a.now.lent c.args.a.now.sound).count_bound)
+chunk_at-c-requires c = omega (arith, (inside-ready c.args.a.now).count_bound)
 
 pub is_clear_of-requires : goal.is_clear_of-requires
 is_clear_of-requires c =
     let chunk_inside : past_of c.chunk_at-c.result ≤ c.args.a.now.lent.head.region = rw c.chunk_at-c.ensures
-    (chunks-at c.args.a.now.lent.starts.now c.args.a.now.lent.sizes.now c.args.a.now.lent.pointers.now (λ d. past_of d ≤ c.args.a.now.lent.head.region) c.loop-i-test.true (lent-ready c.args.a.now.lent c.args.a.now.sound).inside) in
-    omega (arith, chunk_inside, (lent-ready c.args.a.now.lent c.args.a.now.sound).region_bound)
+    (chunks-at c.args.a.now.lent.starts.now c.args.a.now.lent.sizes.now c.args.a.now.lent.pointers.now (λ d. past_of d ≤ c.args.a.now.lent.head.region) c.loop-i-test.true (inside-ready c.args.a.now).inside) in
+    omega (arith, chunk_inside, (inside-ready c.args.a.now).region_bound)
 
 pub overflow_add-c : goal.overflow_add-c
 overflow_add-c c =
     let chunk_inside : past_of c.chunk_at-c.result ≤ c.args.a.now.lent.head.region = rw c.chunk_at-c.ensures
-    (chunks-at c.args.a.now.lent.starts.now c.args.a.now.lent.sizes.now c.args.a.now.lent.pointers.now (λ d. past_of d ≤ c.args.a.now.lent.head.region) c.loop-i-test.true (lent-ready c.args.a.now.lent c.args.a.now.sound).inside) in
-    omega (arith, chunk_inside, (lent-ready c.args.a.now.lent c.args.a.now.sound).region_bound)
+    (chunks-at c.args.a.now.lent.starts.now c.args.a.now.lent.sizes.now c.args.a.now.lent.pointers.now (λ d. past_of d ≤ c.args.a.now.lent.head.region) c.loop-i-test.true (inside-ready c.args.a.now).inside) in
+    omega (arith, chunk_inside, (inside-ready c.args.a.now).region_bound)
 
 pub overflow_add-c-then-not-is_clear_of : goal.overflow_add-c-then-not-is_clear_of
 overflow_add-c-then-not-is_clear_of c =
     let chunk_inside : past_of c.chunk_at-c.result ≤ c.args.a.now.lent.head.region = rw c.chunk_at-c.ensures
-    (chunks-at c.args.a.now.lent.starts.now c.args.a.now.lent.sizes.now c.args.a.now.lent.pointers.now (λ d. past_of d ≤ c.args.a.now.lent.head.region) c.loop-i-test.true (lent-ready c.args.a.now.lent c.args.a.now.sound).inside) in
-    omega (arith, chunk_inside, (lent-ready c.args.a.now.lent c.args.a.now.sound).region_bound)
+    (chunks-at c.args.a.now.lent.starts.now c.args.a.now.lent.sizes.now c.args.a.now.lent.pointers.now (λ d. past_of d ≤ c.args.a.now.lent.head.region) c.loop-i-test.true (inside-ready c.args.a.now).inside) in
+    omega (arith, chunk_inside, (inside-ready c.args.a.now).region_bound)
 
 pub round_up_to-at-requires : goal.round_up_to-at-requires
 round_up_to-at-requires c =
     let chunk_inside : past_of c.chunk_at-c.result ≤ c.args.a.now.lent.head.region = rw c.chunk_at-c.ensures
-    (chunks-at c.args.a.now.lent.starts.now c.args.a.now.lent.sizes.now c.args.a.now.lent.pointers.now (λ d. past_of d ≤ c.args.a.now.lent.head.region) c.loop-i-test.true (lent-ready c.args.a.now.lent c.args.a.now.sound).inside) in
-    omega (arith, chunk_inside, (lent-ready c.args.a.now.lent c.args.a.now.sound).region_bound)
+    (chunks-at c.args.a.now.lent.starts.now c.args.a.now.lent.sizes.now c.args.a.now.lent.pointers.now (λ d. past_of d ≤ c.args.a.now.lent.head.region) c.loop-i-test.true (inside-ready c.args.a.now).inside) in
+    omega (arith, chunk_inside, (inside-ready c.args.a.now).region_bound)
 
 pub loop-i-preserved : goal.loop-i-preserved
 unfolding chunks_of
 loop-i-preserved c =
     let chunk_inside : past_of c.chunk_at-c.result ≤ c.args.a.now.lent.head.region = rw c.chunk_at-c.ensures
-    (chunks-at c.args.a.now.lent.starts.now c.args.a.now.lent.sizes.now c.args.a.now.lent.pointers.now (λ d. past_of d ≤ c.args.a.now.lent.head.region) c.loop-i-test.true (lent-ready c.args.a.now.lent c.args.a.now.sound).inside) in
+    (chunks-at c.args.a.now.lent.starts.now c.args.a.now.lent.sizes.now c.args.a.now.lent.pointers.now (λ d. past_of d ≤ c.args.a.now.lent.head.region) c.loop-i-test.true (inside-ready c.args.a.now).inside) in
     let here = sym c.chunk_at-c.ensures in
     let passing = c.loop-i.invariant.2 in
     let chunk = c.chunk_at-c.result in
     let tested = sym c.is_clear_of.ensures in
     let inside = chunk_inside in
-    let region_bound = (lent-ready c.args.a.now.lent c.args.a.now.sound).region_bound in
+    let region_bound = (inside-ready c.args.a.now).region_bound in
     let near = up-near (past_of chunk) c.args.align (omega arith) in
     elim c.if-not-is_clear_of.branch [
       | then-not-is_clear_of w ↦ rw (add-one, here, w.at-is ∙ w.round_up_to-at.ensures) (omega arith, omega arith, stood-in-way chunk passing (omega arith) (tested ∙ w.if-not-is_clear_of.true))

@@ -34,22 +34,19 @@ unfolding apart chunks_of
 loop-i-init c = (omega arith, refl)
 
 pub is_clear_of_earlier-requires : goal.is_clear_of_earlier-requires
-is_clear_of_earlier-requires c = record {
-  ready = c.requires;
-  i_lt_count = c.loop-i-test.true;
-}
+is_clear_of_earlier-requires c = c.loop-i-test.true
 
 pub returns-then-not-is_clear_of_earlier : goal.returns-then-not-is_clear_of_earlier
 returns-then-not-is_clear_of_earlier c =
     sym
-    (spoilt c.args.a.now.starts.now c.args.a.now.sizes.now c.args.a.now.pointers.now c.loop-i-test.true c.is_clear_of_earlier.ensures c.if-not-is_clear_of_earlier.true)
+    (spoilt c.args.a.now.lent.starts.now c.args.a.now.lent.sizes.now c.args.a.now.lent.pointers.now c.loop-i-test.true c.is_clear_of_earlier.ensures c.if-not-is_clear_of_earlier.true)
 
 pub loop-i-preserved : goal.loop-i-preserved
 loop-i-preserved c =
     let loop = c.loop-i in
-    (omega arith, kept c.args.a.now.starts.now c.args.a.now.sizes.now c.args.a.now.pointers.now loop.i c.is_clear_of_earlier.ensures c.if-not-is_clear_of_earlier.false loop.invariant.1)
+    (omega arith, kept c.args.a.now.lent.starts.now c.args.a.now.lent.sizes.now c.args.a.now.lent.pointers.now loop.i c.is_clear_of_earlier.ensures c.if-not-is_clear_of_earlier.false loop.invariant.1)
 
 pub returns : goal.returns
 returns c =
-    let all : c.loop-i.i ≡ c.args.a.now.head.count = omega arith in
+    let all : c.loop-i.i ≡ c.args.a.now.lent.head.count = omega arith in
     rw (← all) (sym c.loop-i.invariant.1)

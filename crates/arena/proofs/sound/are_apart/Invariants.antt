@@ -7,7 +7,7 @@ use Rattle.arena.specs.Sound.{apart}
 use Rattle.arena.proofs.sound.are_apart.Given as goal
 
 abbrev pub invariant-loop-i : goal.invariant-loop-i
-invariant-loop-i l = (l.i ≤ l.count) × (apart (chunks_of l.a.starts.now l.a.sizes.now l.a.pointers.now l.i) ≡ true)
+invariant-loop-i l = (l.i ≤ l.count) × (apart (chunks_of l.a.lent.starts.now l.a.lent.sizes.now l.a.lent.pointers.now l.i) ≡ true)
 
 abbrev pub decreases-loop-i : goal.decreases-loop-i
 decreases-loop-i l = l.count - l.i

@@ -12,6 +12,7 @@ use Rattle.arena.specs.Sound.{clear}
 use Rattle.arena.specs.Inner.{Ready}
 use Rattle.rounding.proofs.Tests.{taken_false, left-true}
 use Rattle.arena.proofs.View.{chunks-at, chunks-fail, chunks_pass}
+use Rattle.arena.proofs.Soundness.{inside-ready}
 use Rattle.arena.proofs.sound.is_clear_of_earlier.Goals as goal
 
 no_wrap : (h : Head) (starts sizes pointers : List ℕ) → Ready h (chunks_of starts sizes pointers h.count) → (i : ℕ) (c : Chunk) → i < h.count
@@ -23,24 +24,30 @@ pub loop-j-init : goal.loop-j-init
 unfolding every chunks_of
 loop-j-init c = (omega arith, refl)
 
+pub chunk_at-c-requires : goal.chunk_at-c-requires
+chunk_at-c-requires c = omega (arith, c.requires, (inside-ready c.args.a.now).count_bound)
+
+pub chunk_at-d-requires : goal.chunk_at-d-requires
+chunk_at-d-requires c = omega (arith, c.requires, (inside-ready c.args.a.now).count_bound)
+
 pub are_clear-requires : goal.are_clear-requires
 are_clear-requires c =
-    let fits = no_wrap c.args.a.now.head c.args.a.now.starts.now c.args.a.now.sizes.now c.args.a.now.pointers.now c.requires.ready in
-    (fits _ _ c.requires.i_lt_count c.chunk_at-c.ensures, fits _ _ (omega arith) c.chunk_at-d.ensures)
+    let fits = no_wrap c.args.a.now.lent.head c.args.a.now.lent.starts.now c.args.a.now.lent.sizes.now c.args.a.now.lent.pointers.now (inside-ready c.args.a.now) in
+    (fits _ _ c.requires c.chunk_at-c.ensures, fits _ _ (omega arith) c.chunk_at-d.ensures)
 
 pub returns-then-not-are_clear : goal.returns-then-not-are_clear
 returns-then-not-are_clear c =
     let this = c.chunk_at-c in
     let failed = rw c.chunk_at-d.ensures at (taken_false c.are_clear.ensures c.if-not-are_clear.true) in
     rw (← this.ensures)
-    (sym (chunks-fail c.args.a.now.starts.now c.args.a.now.sizes.now c.args.a.now.pointers.now (clear this.result) c.loop-j-test.true failed))
+    (sym (chunks-fail c.args.a.now.lent.starts.now c.args.a.now.lent.sizes.now c.args.a.now.lent.pointers.now (clear this.result) c.loop-j-test.true failed))
 
 pub loop-j-preserved : goal.loop-j-preserved
 loop-j-preserved c =
     let loop = c.loop-j in
     let this = c.chunk_at-c in
     let passed = rw c.chunk_at-d.ensures at (left-true c.are_clear.ensures c.if-not-are_clear.false) in
-    (omega arith, chunks_pass c.args.a.now.starts.now c.args.a.now.sizes.now c.args.a.now.pointers.now (clear this.result) loop.j passed loop.invariant.1)
+    (omega arith, chunks_pass c.args.a.now.lent.starts.now c.args.a.now.lent.sizes.now c.args.a.now.lent.pointers.now (clear this.result) loop.j passed loop.invariant.1)
 
 pub returns : goal.returns
 returns c =

@@ -9,7 +9,7 @@ use Rattle.arena.specs.Sound.{clear}
 use Rattle.arena.proofs.sound.is_clear_of_earlier.Given as goal
 
 abbrev pub invariant-loop-j : goal.invariant-loop-j
-invariant-loop-j l = (l.j ≤ l.i) × (every (clear l.c) (chunks_of l.a.starts.now l.a.sizes.now l.a.pointers.now l.j) ≡ true)
+invariant-loop-j l = (l.j ≤ l.i) × (every (clear l.c) (chunks_of l.a.lent.starts.now l.a.lent.sizes.now l.a.lent.pointers.now l.j) ≡ true)
 
 abbrev pub decreases-loop-j : goal.decreases-loop-j
 decreases-loop-j l = l.i - l.j

@@ -14,7 +14,7 @@ use Rattle.arena.specs.declared.Arena.{Arena}
 use Rattle.arena.specs.Numbers.{places}
 use Rattle.arena.specs.Record.{held_of}
 use Rattle.arena.specs.Sound.{head_sound, chunk_sound, table_sound, sound_of}
-use Rattle.arena.proofs.Soundness.{head-open, chunk-open, chunk-shut, apart-shut, ascending-sound, ascending-apart}
+use Rattle.arena.proofs.Soundness.{ready-shut, head-open, chunk-open, chunk-shut, apart-shut, ascending-sound, ascending-apart}
 use Rattle.arena.proofs.sound.is_sound.Goals as goal
 use Rattle.arena.specs.Inner.{lent_of}
 
@@ -72,19 +72,21 @@ returns-then-not-are_chunks_sound c =
     let table-passed : table_sound arena_at ≡ true = sym c.unused_bits.ensures ∙ eq-eqb c.unused_bits.result 0 c.if-unused_bits-ne0.false in
     rw (head_passed, table-passed, taken_false c.are_chunks_sound.ensures c.if-not-are_chunks_sound.true)
 
-pub are_apart-requires : goal.are_apart-requires
-are_apart-requires c =
+pub invariant_of-are_apart : goal.invariant_of-are_apart
+invariant_of-are_apart c =
     let arena_at : Arena = lent_of c.args.a.now in
     let head_passed : head_sound c.args.a.now.head ≡ true = left-true c.is_head_sound.ensures c.if-not-is_head_sound.false in
     let chunks-passed : every (chunk_sound c.args.a.now.head.region c.args.a.now.head.minimum) (held_of arena_at) ≡ true = left-true c.are_chunks_sound.ensures c.if-not-are_chunks_sound.false in
     let h = c.args.a.now.head in
     let head = head-open h head_passed in
     record {
-      region_bound = head.region_bound;
-      count_bound = head.count_bound;
-      inside =
-          every_map (λ d t. (chunk-open h.region h.minimum d t).inside) (held_of arena_at)
-          (every-open (chunk_sound h.region h.minimum) (held_of arena_at) chunks-passed);
+      ready = ready-shut (record {
+        region_bound = head.region_bound;
+        count_bound = head.count_bound;
+        inside =
+            every_map (λ d t. (chunk-open h.region h.minimum d t).inside) (held_of arena_at)
+            (every-open (chunk_sound h.region h.minimum) (held_of arena_at) chunks-passed);
+      });
     }
 
 pub returns : goal.returns

@@ -13,8 +13,12 @@ use Rattle.arena.proofs.View.{length-chunks}
 use Rattle.calls.specs.Allocate.{new_chunk_gives}
 use Rattle.calls.proofs.Giving.{new-chunk-gives}
 use Rattle.calls.proofs.Placing.{placed-nowhere, placed-added}
+use Rattle.arena.proofs.Soundness.{ready-shut, lent-ready}
 use Rattle.calls.proofs.allocate.placed_slow.Goals as goal
 use Rattle.arena.specs.Inner.{lent_of}
+
+pub invariant_of-climb : goal.invariant_of-climb
+invariant_of-climb c = record { ready = ready-shut (lent-ready c.args.a.now.lent c.args.a.now.sound) }
 
 pub returns-in_default : goal.returns-in_default
 unfolding new_chunk_gives

@@ -8,7 +8,7 @@ use Rattle.rounding.specs.Every.{any}
 use Rattle.rounding.proofs.Tests.{taken_false, left-true}
 use Rattle.arena.specs.declared.Chunk.{Chunk}
 use Rattle.arena.specs.Record.{chunks_of, past_of}
-use Rattle.arena.proofs.Soundness.{lent-ready}
+use Rattle.arena.proofs.Soundness.{inside-ready}
 use Rattle.arena.proofs.View.{chunks-newest, chunks-at}
 use Rattle.calls.specs.Tests.{has_block, acceptable}
 use Rattle.calls.proofs.Some.{any-now, any-later, any_none}
@@ -27,11 +27,11 @@ pub loop-left-init : goal.loop-left-init
 loop-left-init c = (omega arith, refl)
 
 pub chunk_at-c-requires : goal.chunk_at-c-requires
-chunk_at-c-requires c = omega (arith, (lent-ready c.args.a.now.lent c.args.a.now.sound).count_bound)
+chunk_at-c-requires c = omega (arith, (inside-ready c.args.a.now).count_bound)
 
 pub has_block-requires : goal.has_block-requires
 has_block-requires c =
-    let ready = lent-ready c.args.a.now.lent c.args.a.now.sound in
+    let ready = inside-ready c.args.a.now in
     let within = chunks-at c.args.a.now.lent.starts.now c.args.a.now.lent.sizes.now c.args.a.now.lent.pointers.now (λ d. past_of d ≤ c.args.a.now.lent.head.region) {i = c.loop-left.left - 1} {k = c.args.a.now.lent.head.count} (omega arith) ready.inside in
     rw c.chunk_at-c.ensures (omega (arith, within, ready.region_bound))
 

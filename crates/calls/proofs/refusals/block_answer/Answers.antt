@@ -14,6 +14,7 @@ use Rattle.arena.proofs.Soundness.{align-open}
 use Rattle.calls.specs.Tests.{size_test, align_test, block_test}
 use Rattle.calls.specs.Write.{lend_answer}
 use Rattle.calls.specs.Inner.{block_tests}
+use Rattle.arena.proofs.Soundness.{ready-shut, lent-ready}
 use Rattle.calls.proofs.refusals.block_answer.Goals as goal
 
 pub returns-then-block-gt-MOST : goal.returns-then-block-gt-MOST
@@ -31,6 +32,9 @@ returns-then-not-is_allowed_align c =
     (ap lend_answer
     (refused-later (size_test s.block.layout.size) (align_test s.block.layout.align ∷ rest) (le-ltb most s.block.layout.size c.if-block-gt-MOST.false)
     ∙ refused-now (align_test s.block.layout.align) rest (false-not (taken_false c.is_allowed_align.ensures c.if-not-is_allowed_align.true))))
+
+pub invariant_of-is_acceptable : goal.invariant_of-is_acceptable
+invariant_of-is_acceptable c = record { ready = ready-shut (lent-ready c.args.a.now.lent c.args.a.now.sound) }
 
 pub is_acceptable-requires : goal.is_acceptable-requires
 is_acceptable-requires c =

@@ -21,6 +21,7 @@ use Rattle.arena.proofs.Soundness.{align-open}
 use Rattle.calls.specs.Tests.{acceptable, sizes_test, aligns_test, block_test}
 use Rattle.calls.specs.Write.{lend_answer}
 use Rattle.calls.specs.Inner.{change_tests}
+use Rattle.arena.proofs.Soundness.{ready-shut, lent-ready}
 use Rattle.calls.proofs.refusals.change_answer.Goals as goal
 
 module _ (a : Arena) (offset old old_align new new_align : ℕ) (backwards : Bool) where
@@ -89,6 +90,9 @@ returns-then-not-is_allowed_align-2 c =
     (ap lend_answer
     (by-align (lent_of s.a.now.lent) s.block.offset s.block.layout.size s.block.layout.align s.new.size s.new.align s.backwards c.if-block-gt-MOST.false c.if-new-gt-MOST.false
     (or_right (not (allowed_align s.block.layout.align)) off)))
+
+pub invariant_of-is_acceptable : goal.invariant_of-is_acceptable
+invariant_of-is_acceptable c = record { ready = ready-shut (lent-ready c.args.a.now.lent c.args.a.now.sound) }
 
 pub is_acceptable-requires : goal.is_acceptable-requires
 is_acceptable-requires c =

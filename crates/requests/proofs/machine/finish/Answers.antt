@@ -8,7 +8,7 @@ use lib.ListN.{length, length-append}
 use Rattle.arena.specs.Record.{held_of}
 use Rattle.arena.specs.Ladder.{held_bytes}
 use Rattle.arena.specs.Sound.{sound_of}
-use Rattle.arena.proofs.Soundness.{sound-open, sound-ready}
+use Rattle.arena.proofs.Soundness.{sound-open, ready-shut, lent-ready}
 use Rattle.requests.specs.Text.{held_line}
 use Rattle.requests.specs.Machine.{ending_text}
 use Rattle.requests.specs.Inner.{Put}
@@ -29,6 +29,9 @@ unfolding final_text
 returns-in_default c =
     let a = c.args in
     rw (le-leb end_room (length a.out.now) c.if-out-lt-END.false, c.in_default.ensures.unsound) (record { put = put-none a.out.now; upper_bound = omega arith })
+
+pub invariant_of-held_bytes : goal.invariant_of-held_bytes
+invariant_of-held_bytes c = record { ready = ready-shut (lent-ready c.in-Some.sound.lent c.in-Some.sound.sound) }
 
 pub put_held-requires : goal.put_held-requires
 put_held-requires c =
