@@ -8,7 +8,7 @@ use lib.ListN.{length, length-append}
 use Rattle.arena.specs.Record.{held_of}
 use Rattle.arena.specs.Ladder.{held_bytes}
 use Rattle.arena.specs.Sound.{sound_of}
-use Rattle.arena.proofs.Soundness.{sound-open, ready-shut, lent-ready}
+use Rattle.arena.proofs.Soundness.{ready-shut, lent-ready}
 use Rattle.requests.specs.Text.{held_line}
 use Rattle.requests.specs.Machine.{ending_text}
 use Rattle.requests.specs.Inner.{Put}
