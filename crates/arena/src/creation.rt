@@ -91,9 +91,7 @@ impl Arena {
             align: minimum,
         };
         let request = Allowed { layout };
-        let inside = Inside {
-            lent: fresh.lent(),
-        };
+        let inside = Inside { lent: fresh.lent() };
         let got = take_rung(&inside, 0, request, Arena::DEFAULT_SIZE);
         let Some(c) = got else {
             return refused_creation(Refusal::Room);

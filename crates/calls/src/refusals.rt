@@ -9,8 +9,7 @@ use crate::Answered;
 use crate::block::is_acceptable;
 use arena::change::Change;
 use arena::layout::{Block, Layout};
-use arena::lent::Inside;
-use arena::lent::Lent;
+use arena::lent::{Inside, Lent};
 use arena::sound::{Sound, is_allowed_align};
 use arena::{Arena, Refusal};
 
