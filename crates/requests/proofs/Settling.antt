@@ -9,8 +9,8 @@ use mathlib.Core.Path.{◌≡◌, refl, sym, ◌∙◌}
 use lib.Dec.{leb}
 use lib.ListN.{length, take, drop, length-append, take-append-drop}
 use lib.Seq.{take-append-le, length-take-le}
-use borrow.Author.Tests.{le-leb, leb-true, leb-false}
-use Rattle.requests.specs.Bytes.{then_byte}
+use borrow.Author.Tests.{le-leb, lt-leb, leb-true, leb-false}
+use Rattle.requests.specs.Bytes.{then_byte, byte_at}
 use Rattle.requests.specs.Request.{Request, request_of}
 use Rattle.requests.specs.Front.{part, whole, unfinished, record_front, front_of}
 
@@ -91,3 +91,10 @@ front-own p {size} {r} e = go (unfinished (front_of (take size p))) refl
         let held = length-take-le size p (whole-size p e).1 in
         absurd (omega arith)
     go false u = sym (front-stays (take size p) (drop size p) u) ∙ joined
+
+-- two bytes say how long a record is, and fewer bytes than that are a part of one
+pub short-front : (p : List ℕ) → 2 ≤ length p → length p < 2 + then_byte (byte_at p 0) (byte_at p 1) → front_of p ≡ part
+unfolding front_of
+short-front [] two h = absurd (omega arith)
+short-front (high ∷ []) two h = absurd (omega arith)
+short-front (high ∷ (low ∷ rest)) two h = rw (lt-leb (then_byte high low) (length rest) (omega arith))

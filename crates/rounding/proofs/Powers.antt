@@ -1,7 +1,7 @@
 -- Powers of two: a number with one bit set is one, of two the smaller divides the larger, and the next one at or above n is the least there is.
 -- Assumes nothing.
 use Prim.Native.Nat.{ℕ, suc, ◌+◌, ◌-◌, ◌*◌, ◌/◌, ◌%◌, ◌^◌, ◌≤◌, ◌<◌, max, ◌∣◌}
-use native.Mathlib.Nat.{le_antisymm, lt_of_not-le, le_of_lt, eq-zero-or-pos, max-eq_left, max-eq_right, le-max_left, le-max_right, add-sub_of_le, dvd-mul_right, dvd_trans, pow-suc}
+use native.Mathlib.Nat.{le_antisymm, lt_of_not-le, le_of_lt, eq-zero-or-pos, max-eq_left, max-eq_right, le-max_left, le-max_right, add-sub_of_le, dvd-mul_right, dvd_trans, pow-suc, le_refl, le_trans}
 use native.Mathlib.Decide.{dec_le}
 use native.Mathlib.Omega.{arith}
 use mathlib.Core.Bool.{true}
@@ -91,6 +91,10 @@ of-max-left {p} {q} hp hq h = dvd_trans p (power_divides hp (power-max hp hq) (l
 pub of-max-right : {p q n : ℕ} → Power p → Power q → max p q ∣ n → q ∣ n
 of-max-right {p} {q} hp hq h = dvd_trans q (power_divides hq (power-max hp hq) (le-max_right p q)) h
 
+-- what both divide the larger divides
+pub max-multiple : (p q : ℕ) {n : ℕ} → p ∣ n → q ∣ n → max p q ∣ n
+max-multiple p q {n} h k = max_cases (λ (m : ℕ). m ∣ n) p q (λ l. k) (λ l. h)
+
 -- rounded down by one and then by the other, a number is rounded down by the larger, so that a multiple of one stays a multiple of it
 pub down-twice : (n : ℕ) {p q : ℕ} → Power p → Power q → round_down (round_down n p) q ≡ round_down n (max p q)
 down-twice n {p} {q} hp hq =
@@ -152,3 +156,23 @@ next_is {n} {p} h is =
           let not-less : ¬ (q < p) = λ g. omega (arith, power-doubles hq power g, power-positive hq, is.2) in
           omega arith;
     })
+
+-- a power between n and its double is the next one, and a power is its own
+pub next-between : {n p : ℕ} → n ≤ 2 ^ 64 → Power p → n ≤ p → p < n * 2 → next_power n ≡ p
+next-between {n} {p} h hp l g =
+    next-unique h
+    (record {
+      power = hp;
+      above = l;
+      least = λ {q} hq m.
+          let not-less : ¬ (q < p) = λ k. omega (arith, power-doubles hq hp k) in
+          omega arith;
+    })
+
+pub next-stays : {p : ℕ} → Power p → p ≤ 2 ^ 64 → next_power p ≡ p
+next-stays {p} hp h = next-unique h (record { power = hp; above = le_refl p; least = λ hq l. l })
+
+pub next-monotone : {n m : ℕ} → n ≤ m → m ≤ 2 ^ 64 → next_power n ≤ next_power m
+next-monotone {n} {m} l h =
+    let found = next_power_lem m h in
+    (next_power_lem n (le_trans l h)).least found.power (le_trans l found.above)

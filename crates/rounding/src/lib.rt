@@ -15,7 +15,7 @@ pub fn round_up_to(n: usize, divisor: usize) -> usize
     requires { (0 < divisor) × (n + divisor ≤ 2 ^ 64) }
     ensures { result ≡ round_up n divisor }
 {
-    n.next_multiple_of(divisor)
+    round_down_to(n + (divisor - 1), divisor)
 }
 
 pub fn is_multiple(n: usize, divisor: usize) -> bool
