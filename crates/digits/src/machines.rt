@@ -37,15 +37,19 @@ fn show_ended<W: Write>(out: &mut W, state: State, rest: &[u8]) -> io::Result<()
 
 // The lines of these three from a number on, and those of an end inside the record after them. Where the numbers of the window's bytes don't fit, none of
 // it is taken.
-pub fn show_requests<W: Write>(out: &mut W, number: usize, size: usize) -> io::Result<()> {
+pub fn show_requests<W: Write>(
+    out: &mut W,
+    lent: &mut [u8],
+    number: usize,
+    size: usize,
+) -> io::Result<()> {
     let state = State {
         stage: Stage::Running,
         number,
         arena: one_chunk(),
     };
-    let mut lent = [0; 65536];
     let mut lines = [0; 4096];
-    let did = feed(state, &mut lent, &window(size), &mut lines);
+    let did = feed(state, lent, &window(size), &mut lines);
     out.write_all(&lines[..did.written])?;
     show_ended(out, did.state, b"\x00")
 }
