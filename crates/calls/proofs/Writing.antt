@@ -142,6 +142,71 @@ pub carried-stays : (bytes : List ℕ) (at n : ℕ) → at + n ≤ length bytes 
 carried-stays bytes at n h =
     sym (carried-is bytes at at n h h bytes refl (λ x low high. ap (λ (k : ℕ). get_or bytes k 0) (omega arith)) (λ x apart. refl))
 
+module _ (bytes : List ℕ) (from to i k : ℕ) (source : from + (i + k) ≤ length bytes) (room : to + (i + k) ≤ length bytes) where
+  -- downwards the first i bytes may go before the k after them
+  pub carried_first : to ≤ from → carried (carried bytes from to i) (from + i) (to + i) k ≡ carried bytes from to (i + k)
+  carried_first down =
+      carried-is bytes from to (i + k) source room (carried first (from + i) (to + i) k)
+      (length-carried first (from + i) (to + i) k source' room' ∙ same)
+      (λ x low high. go x low high (dec_lt x (to + i)))
+      (λ x apart.
+      carried-elsewhere first (from + i) (to + i) k source' room' x (λ l h. apart (omega arith) (omega arith))
+      ∙ carried-elsewhere bytes from to i (omega arith) (omega arith) x (λ l h. apart l (omega arith)))
+    where
+      first : List ℕ
+      first = carried bytes from to i
+
+      same : length first ≡ length bytes
+      same = length-carried bytes from to i (omega arith) (omega arith)
+
+      source' : from + i + k ≤ length first
+      source' = omega (arith, same)
+
+      room' : to + i + k ≤ length first
+      room' = omega (arith, same)
+
+      go : (x : ℕ) → to ≤ x → x < to + (i + k) → Dec (x < to + i)
+          → get_or (carried first (from + i) (to + i) k) x 0 ≡ get_or bytes (from + (x - to)) 0
+      go x low high (yes early) =
+          carried-elsewhere first (from + i) (to + i) k source' room' x (omega arith)
+          ∙ carried-within bytes from to i (omega arith) (omega arith) x low early
+      go x low high (no late) =
+          carried-within first (from + i) (to + i) k source' room' x (omega arith) (omega arith)
+          ∙ carried-elsewhere bytes from to i (omega arith) (omega arith) (from + i + (x - (to + i))) (omega arith)
+          ∙ ap (λ (k : ℕ). get_or bytes k 0) (omega arith)
+
+  -- upwards the last k bytes may go before the i in front of them
+  pub carried-last : from ≤ to → carried (carried bytes (from + i) (to + i) k) from to i ≡ carried bytes from to (i + k)
+  carried-last up =
+      carried-is bytes from to (i + k) source room (carried last from to i)
+      (length-carried last from to i source' room' ∙ same)
+      (λ x low high. go x low high (dec_lt x (to + i)))
+      (λ x apart.
+      carried-elsewhere last from to i source' room' x (λ l h. apart l (omega arith))
+      ∙ carried-elsewhere bytes (from + i) (to + i) k (omega arith) (omega arith) x (λ l h. apart (omega arith) (omega arith)))
+    where
+      last : List ℕ
+      last = carried bytes (from + i) (to + i) k
+
+      same : length last ≡ length bytes
+      same = length-carried bytes (from + i) (to + i) k (omega arith) (omega arith)
+
+      source' : from + i ≤ length last
+      source' = omega (arith, same)
+
+      room' : to + i ≤ length last
+      room' = omega (arith, same)
+
+      go : (x : ℕ) → to ≤ x → x < to + (i + k) → Dec (x < to + i)
+          → get_or (carried last from to i) x 0 ≡ get_or bytes (from + (x - to)) 0
+      go x low high (yes early) =
+          carried-within last from to i source' room' x low early
+          ∙ carried-elsewhere bytes (from + i) (to + i) k (omega arith) (omega arith) (from + (x - to)) (omega arith)
+      go x low high (no late) =
+          carried-elsewhere last from to i source' room' x (omega arith)
+          ∙ carried-within bytes (from + i) (to + i) k (omega arith) (omega arith) x (omega arith) (omega arith)
+          ∙ ap (λ (k : ℕ). get_or bytes k 0) (omega arith)
+
 -- what the library moves within a list is carried
 pub moved-carried : (bytes : List ℕ) (from to n : ℕ) → from + n ≤ length bytes → copy_within bytes from (from + n) to ≡ carried bytes from to n
 unfolding carried written

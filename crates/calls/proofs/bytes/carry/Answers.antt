@@ -15,5 +15,5 @@ returns-then-from-to c =
 
 pub returns-else-n-le64 : goal.returns-else-n-le64
 returns-else-n-le64 c =
-    let start = c.args in
-    c.copy_within.ensures.after ∙ moved-carried start.region.now start.from start.to start.n c.requires.0
+    let s = c.args in
+    c.copy_within.ensures.after ∙ moved-carried s.region.now s.from s.to s.n c.requires.0
