@@ -6,16 +6,14 @@ use lib.ListN.{replicate, set}
 use native.Mathlib.Omega.{arith}
 use borrow.Author.Tests.{le-leb, lt-leb}
 use Rattle.arena.specs.declared.Arena.{Arena}
-use Rattle.arena.specs.declared.Head.{Head}
 use Rattle.arena.specs.declared.Chunk.{Chunk}
 use Rattle.arena.specs.declared.change.Change.{Change}
 use Rattle.arena.specs.declared.change.Change.TheVariants.{Same, Moved, Added, Limited, Kept}
 use Rattle.rounding.proofs.Every.{every_map}
 use Rattle.arena.specs.Numbers.{places, most}
 use Rattle.arena.specs.Record.{end_of, record_of, chunk_at, chunks_of, held_of, column, holding}
-use Rattle.arena.specs.Creation.{kept_by_reset}
-use Rattle.arena.specs.Inner.{moved_to, limited_by, changed_by}
-use Rattle.std.specs.Prelude.{Option}
+use Rattle.arena.specs.Creation.{limited_to, kept_by_reset}
+use Rattle.arena.specs.Inner.{moved_to, changed_by}
 use Rattle.arena.proofs.Soundness.{Sound}
 use Rattle.arena.proofs.View.{with_count, chunks-at, chunks-newest, holding-held, holding-taken, holding-moved}
 
@@ -55,10 +53,9 @@ module _ {a : Arena} (s : Sound a) {change : Change} where
   unfolding changed_by
   adds {c} e l = rw (e, lt-leb places a.head.count l) (sym (holding-taken s c))
 
-  pub limits : {limit : Option ℕ} {h : Head} → change ≡ Limited limit → h ≡ limited_by a.head limit →
-      record_of h a.starts a.sizes a.pointers ≡ changed_by change a
+  pub limits : {limited limit : ℕ} → change ≡ Limited limited limit → limited_to a limited limit ≡ changed_by change a
   unfolding changed_by
-  limits e l = rw (e, l)
+  limits e = rw e
 
   pub keeps : {b : Arena} → change ≡ Kept → b ≡ holding a.head (kept_by_reset (held_of a)) → b ≡ changed_by change a
   unfolding changed_by

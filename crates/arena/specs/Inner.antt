@@ -12,7 +12,7 @@ use Rattle.arena.specs.Numbers.{places, most}
 use Rattle.arena.specs.Record.{past_of, with_pointer, record_of, held_of, holding}
 use Rattle.arena.specs.Sound.{chunk_sound}
 use Rattle.arena.specs.Placing.{misses}
-use Rattle.arena.specs.Creation.{kept_by_reset}
+use Rattle.arena.specs.Creation.{limited_to, kept_by_reset}
 
 -- what the rules that take a new chunk lean on: the region is no longer than allowed, the table no fuller, and every held chunk stands in the
 -- region with its 48
@@ -39,17 +39,12 @@ unfoldable pub moved_to : List Chunk → ℕ → List Chunk
 moved_to [] p = []
 moved_to (c ∷ cs) p = with_pointer c p ∷ cs
 
--- under a limit, or under none
-unfoldable pub limited_by : Head → Option ℕ → Head
-limited_by h None = record { region = h.region; minimum = h.minimum; limited = 0; limit = 0; count = h.count }
-limited_by h (Some limit) = record { region = h.region; minimum = h.minimum; limited = 1; limit = limit; count = h.count }
-
 -- a sound record once a change is made; no chunk is added to a full table
 unfoldable pub changed_by : Change → Arena → Arena
 changed_by Same a = a
 changed_by (Moved p) a = holding a.head (moved_to (held_of a) p)
 changed_by (Added c) a = cond (leb places a.head.count) a (holding a.head (c ∷ held_of a))
-changed_by (Limited limit) a = record_of (limited_by a.head limit) a.starts a.sizes a.pointers
+changed_by (Limited limited limit) a = limited_to a limited limit
 changed_by Kept a = holding a.head (kept_by_reset (held_of a))
 
 -- what going once through the table from an offset comes to: a multiple at or past it, none between them free of the chunks, and the offset

@@ -4,7 +4,7 @@ ghost use Rattle.std.specs.Prelude.{◌≡◌, true, [], ◌∷◌};
 ghost use Rattle.arena.specs.Record.{record_of};
 ghost use Rattle.arena.specs.Refusals.{refused_by, answered};
 ghost use Rattle.arena.specs.Sound.{sound_of, state_test};
-ghost use Rattle.arena.specs.Inner.{limited_by, changed_by};
+ghost use Rattle.arena.specs.Inner.{changed_by};
 
 use crate::reset::keep_current;
 use crate::sound::is_sound;
@@ -17,29 +17,10 @@ pub enum Change {
     Moved(usize),
     // One chunk more, which becomes current.
     Added(Chunk),
-    // The limit, if there is one.
-    Limited(Option<usize>),
+    // The head's two numbers, and no Option: what `make` promises it promises of any two.
+    Limited(usize, usize),
     // The current chunk alone, and that whole.
     Kept,
-}
-
-impl Head {
-    fn limited_by(self, limit: Option<usize>) -> Head
-        ensures { result ≡ limited_by self limit }
-    {
-        match limit {
-            None => Head {
-                limited: 0,
-                limit: 0,
-                ..self
-            },
-            Some(limit) => Head {
-                limited: 1,
-                limit,
-                ..self
-            },
-        }
-    }
 }
 
 // In place, on a sound record that is lent in parts; answers its head.
@@ -77,28 +58,38 @@ pub fn make(
                 ..h
             }
         }
-        Change::Limited(limit) => h.limited_by(limit),
+        Change::Limited(limited, limit) => Head {
+            limited,
+            limit,
+            ..h
+        },
         Change::Kept => keep_current(h, starts, sizes, pointers),
     }
 }
 
 impl Arena {
+    // Where it stands: by value it would be copied to a call and back.
+    pub fn change(&mut self, change: Change)
+        requires { sound_of self.old ≡ true }
+        ensures { self.new ≡ changed_by change self.old }
+    {
+        self.head = make(
+            self.head,
+            &mut self.starts,
+            &mut self.sizes,
+            &mut self.pointers,
+            change,
+        );
+    }
+
     // The same of a record by value.
-    // The columns are taken out, since `make` is lent them one by one.
     pub fn changed(self, change: Change) -> Arena
         requires { sound_of self ≡ true }
         ensures { result ≡ changed_by change self }
     {
-        let mut starts = self.starts;
-        let mut sizes = self.sizes;
-        let mut pointers = self.pointers;
-        let head = make(self.head, &mut starts, &mut sizes, &mut pointers, change);
-        Arena {
-            head,
-            starts,
-            sizes,
-            pointers,
-        }
+        let mut arena = self;
+        arena.change(change);
+        arena
     }
 
     // A call that changes the record so and that nothing but its soundness is tested for.

@@ -5,7 +5,8 @@ ghost use Rattle.arena.specs.Sound.{sound_of};
 ghost use Rattle.arena.specs.Creation.{kept_by_reset, reset_of};
 
 use crate::change::Change;
-use crate::{Arena, Head, Outcome};
+use crate::sound::is_sound;
+use crate::{Arena, Head, Outcome, Refusal};
 
 // In place, on a sound record that is lent in parts; answers its head.
 // The four parts by themselves, as in `change::make`.
@@ -40,9 +41,22 @@ pub fn keep_current(
 }
 
 impl Arena {
+    pub fn reset_on(&mut self) -> Result<(), Refusal>
+        ensures value { result ≡ (reset_of self.old).answer }
+        ensures arena_after { self.new ≡ (reset_of self.old).arena }
+    {
+        if !is_sound(&self.lent()) {
+            return Err(Refusal::State);
+        }
+        self.change(Change::Kept);
+        Ok(())
+    }
+
     pub fn reset(self) -> Outcome<()>
         ensures { result ≡ reset_of self }
     {
-        self.changed_if_sound(Change::Kept)
+        let mut arena = self;
+        let answer = arena.reset_on();
+        Outcome { answer, arena }
     }
 }

@@ -91,18 +91,28 @@ pub fn allocate_placed(a: &Sound, layout: Layout) -> Answered<usize>
     Answered::moved(p)
 }
 
-// Each by-value call has this frame of three lines; a generic one over closures would say each call's contract once more.
-// The arguments are document 01's own, in its order, here and in each call by value.
+// On a record that is lent and changed where it stands: by value it would be copied to the call and back. Each call has this form, which the entries for hosts
+// run, and below it the call by value, which is the same on a record of its own.
+// The arguments are document 01's own, in its order, here and in each of them.
+pub fn allocate_on(
+    a: &mut Arena,
+    region: &[u8],
+    size: usize,
+    align: usize,
+) -> Result<usize, Refusal>
+    ensures value { result ≡ (allocate_of a.old (length region.now) size align).answer }
+    ensures arena_after { a.new ≡ (allocate_of a.old (length region.now) size align).arena }
+{
+    let sound = lent_sound(a.lent(), region.len())?;
+    let got = allocate_placed(&sound, Layout { size, align });
+    a.change(got.change);
+    got.answer
+}
+
 pub fn allocate(a: Arena, region: &[u8], size: usize, align: usize) -> Outcome<usize>
     ensures { result ≡ allocate_of a (length region.now) size align }
 {
-    let sound = match lent_sound(a.lent(), region.len()) {
-        Ok(sound) => sound,
-        Err(r) => return Outcome::refused(a, r),
-    };
-    let got = allocate_placed(&sound, Layout { size, align });
-    Outcome {
-        answer: got.answer,
-        arena: a.changed(got.change),
-    }
+    let mut arena = a;
+    let answer = allocate_on(&mut arena, region, size, align);
+    Outcome { answer, arena }
 }

@@ -36,17 +36,24 @@ pub fn free_ended(a: &Sound, block: Block) -> Answered<()>
     }
 }
 
-// The same frame as allocate's, without a lent region.
-pub fn free(a: Arena, offset: usize, size: usize, align: usize) -> Outcome<()>
-    ensures { result ≡ free_of a offset size align }
+// As `allocate_on`, without a lent region.
+pub fn free_on(a: &mut Arena, offset: usize, size: usize, align: usize) -> Result<(), Refusal>
+    ensures value { result ≡ (free_of a.old offset size align).answer }
+    ensures arena_after { a.new ≡ (free_of a.old offset size align).arena }
 {
     let Some(sound) = a.sound() else {
-        return Outcome::refused(a, Refusal::State);
+        return Err(Refusal::State);
     };
     let layout = Layout { size, align };
     let ended = free_ended(&sound, Block { offset, layout });
-    Outcome {
-        answer: ended.answer,
-        arena: a.changed(ended.change),
-    }
+    a.change(ended.change);
+    ended.answer
+}
+
+pub fn free(a: Arena, offset: usize, size: usize, align: usize) -> Outcome<()>
+    ensures { result ≡ free_of a offset size align }
+{
+    let mut arena = a;
+    let answer = free_on(&mut arena, offset, size, align);
+    Outcome { answer, arena }
 }

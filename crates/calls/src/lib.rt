@@ -1,5 +1,5 @@
-// Allocate, free, copy in, fill and lend by value: the record goes in, and comes back beside the answer. `reshape` and `takeback` have the other calls, over what is
-// shared here.
+// Allocate, free, copy in, fill and lend: on a record that is lent, and by value, where the record goes in and comes back beside the answer. `reshape` and
+// `takeback` have the other calls, over what is shared here.
 #![tactic(auto)]
 
 pub mod allocate;

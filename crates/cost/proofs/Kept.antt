@@ -4,12 +4,11 @@ use mathlib.Core.Bool.{Bool, true, false, cond}
 use mathlib.Core.List.{◌∷◌}
 use mathlib.Core.Path.{◌≡◌, refl, sym, ap, ◌∙◌}
 use lib.Dec.{leb}
-use Rattle.std.specs.Prelude.{None, Some}
 use Rattle.arena.specs.declared.Arena.{Arena}
 use Rattle.arena.specs.declared.change.Change.{Change}
 use Rattle.arena.specs.declared.change.Change.TheVariants.{Same, Moved, Added, Limited, Kept}
 use Rattle.arena.specs.Creation.{reset_of}
-use Rattle.arena.specs.Inner.{changed_by, limited_by}
+use Rattle.arena.specs.Inner.{changed_by}
 use Rattle.arena.specs.Numbers.{places}
 use Rattle.arena.specs.Record.{held_of, holding}
 use Rattle.arena.specs.Sound.{sound_of}
@@ -27,7 +26,7 @@ reset-keeps a s = ap (λ o. sound_of o.arena) (sym (sound-done a _ s)) ∙ reset
 
 -- no change is of another region
 pub changed-region : (change : Change) (a : Arena) → (changed_by change a).head.region ≡ a.head.region
-unfolding changed_by limited_by holding
+unfolding changed_by holding
 changed-region Same a = refl
 changed-region (Moved p) a = refl
 changed-region (Added c) a = go (leb places a.head.count)
@@ -35,8 +34,7 @@ changed-region (Added c) a = go (leb places a.head.count)
     go : (b : Bool) → (cond b a (holding a.head (c ∷ held_of a))).head.region ≡ a.head.region
     go true = refl
     go false = refl
-changed-region (Limited None) a = refl
-changed-region (Limited (Some limit)) a = refl
+changed-region (Limited limited limit) a = refl
 changed-region Kept a = refl
 
 -- a sound record that is lent its own region, of n bytes

@@ -4,12 +4,8 @@ ghost use Rattle.calls.specs.Grow.{grow_of, grow_bytes, grow_zeroed_bytes};
 ghost use Rattle.host.specs.Said.{said_given};
 
 use crate::Said;
-use crate::change::change_in;
 use arena::Arena;
-use arena::layout::{Block, Layout};
-use calls::bytes::fill;
-use calls::refusals::lent_sound;
-use reshape::grow::grow_placed;
+use reshape::grow::{grow_on, grow_zeroed_on};
 
 #[unsafe(no_mangle)]
 pub extern "C" fn miravoly_grow(
@@ -25,24 +21,7 @@ pub extern "C" fn miravoly_grow(
     ensures arena_after { arena.new ≡ (grow_of arena.old (length region.old) offset old old_align new new_align).arena }
     ensures region_after { region.new ≡ grow_bytes arena.old region.old offset old old_align new new_align }
 {
-    let sound = match lent_sound(arena.lent(), region.len()) {
-        Ok(sound) => sound,
-        Err(r) => return r.into(),
-    };
-    let block = Block {
-        offset,
-        layout: Layout {
-            size: old,
-            align: old_align,
-        },
-    };
-    let wanted = Layout {
-        size: new,
-        align: new_align,
-    };
-    let got = grow_placed(&sound, region, block, wanted);
-    change_in(arena, got.change);
-    got.answer.into()
+    grow_on(arena, region, offset, old, old_align, new, new_align).into()
 }
 
 #[unsafe(no_mangle)]
@@ -59,26 +38,5 @@ pub extern "C" fn miravoly_grow_zeroed(
     ensures arena_after { arena.new ≡ (grow_of arena.old (length region.old) offset old old_align new new_align).arena }
     ensures region_after { region.new ≡ grow_zeroed_bytes arena.old region.old offset old old_align new new_align }
 {
-    let sound = match lent_sound(arena.lent(), region.len()) {
-        Ok(sound) => sound,
-        Err(r) => return r.into(),
-    };
-    let block = Block {
-        offset,
-        layout: Layout {
-            size: old,
-            align: old_align,
-        },
-    };
-    let wanted = Layout {
-        size: new,
-        align: new_align,
-    };
-    let grown = grow_placed(&sound, region, block, wanted);
-    change_in(arena, grown.change);
-    let said = Said::from(grown.answer);
-    if let Ok(to) = grown.answer {
-        fill(region, to + old, new - old, 0);
-    }
-    said
+    grow_zeroed_on(arena, region, offset, old, old_align, new, new_align).into()
 }

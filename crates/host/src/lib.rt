@@ -4,7 +4,6 @@
 
 pub mod allocate;
 pub mod answers;
-mod change;
 pub mod create;
 pub mod free;
 pub mod grow;

@@ -4,16 +4,14 @@ ghost use Rattle.arena.specs.Creation.{set_limit_of, no_limit_of};
 ghost use Rattle.host.specs.Said.{said_of};
 
 use crate::Said;
-use crate::change::change_if_sound;
 use arena::Arena;
-use arena::change::Change;
 
 #[unsafe(no_mangle)]
 pub extern "C" fn miravoly_set_limit(arena: &mut Arena, limit: usize) -> Said
     ensures value { result ≡ said_of (set_limit_of arena.old limit).answer }
     ensures arena_after { arena.new ≡ (set_limit_of arena.old limit).arena }
 {
-    change_if_sound(arena, Change::Limited(Some(limit))).into()
+    arena.set_allocation_limit_on(limit).into()
 }
 
 #[unsafe(no_mangle)]
@@ -21,5 +19,5 @@ pub extern "C" fn miravoly_no_limit(arena: &mut Arena) -> Said
     ensures value { result ≡ said_of (no_limit_of arena.old).answer }
     ensures arena_after { arena.new ≡ (no_limit_of arena.old).arena }
 {
-    change_if_sound(arena, Change::Limited(None)).into()
+    arena.no_allocation_limit_on().into()
 }

@@ -4,11 +4,8 @@ ghost use Rattle.calls.specs.Shrink.{shrink_of, shrink_bytes};
 ghost use Rattle.host.specs.Said.{said_given};
 
 use crate::Said;
-use crate::change::change_in;
 use arena::Arena;
-use arena::layout::{Block, Layout};
-use calls::refusals::lent_sound;
-use reshape::shrink::shrink_placed;
+use reshape::shrink::shrink_on;
 
 #[unsafe(no_mangle)]
 pub extern "C" fn miravoly_shrink(
@@ -24,22 +21,5 @@ pub extern "C" fn miravoly_shrink(
     ensures arena_after { arena.new ≡ (shrink_of arena.old (length region.old) offset old old_align new new_align).arena }
     ensures region_after { region.new ≡ shrink_bytes arena.old region.old offset old old_align new new_align }
 {
-    let sound = match lent_sound(arena.lent(), region.len()) {
-        Ok(sound) => sound,
-        Err(r) => return r.into(),
-    };
-    let block = Block {
-        offset,
-        layout: Layout {
-            size: old,
-            align: old_align,
-        },
-    };
-    let wanted = Layout {
-        size: new,
-        align: new_align,
-    };
-    let got = shrink_placed(&sound, region, block, wanted);
-    change_in(arena, got.change);
-    got.answer.into()
+    shrink_on(arena, region, offset, old, old_align, new, new_align).into()
 }

@@ -4,13 +4,10 @@ ghost use Rattle.calls.specs.Token.{token_of, with_token_of, cancel_of};
 ghost use Rattle.host.specs.Said.{said_of, said_token};
 
 use crate::answers::said_token;
-use crate::change::change_in;
 use crate::{Said, SaidToken};
-use arena::layout::Layout;
-use arena::{Arena, Refusal};
+use arena::Arena;
 use calls::Token;
-use calls::refusals::lent_sound;
-use takeback::tokens::{allocate_with_token_placed, cancel_ended};
+use takeback::tokens::{allocate_with_token_on, cancel_on};
 
 #[unsafe(no_mangle)]
 pub extern "C" fn miravoly_allocate_with_token(
@@ -22,13 +19,8 @@ pub extern "C" fn miravoly_allocate_with_token(
     ensures value { result ≡ said_token (with_token_of arena.old (length region.now) size align) }
     ensures arena_after { arena.new ≡ (with_token_of arena.old (length region.now) size align).arena }
 {
-    let sound = match lent_sound(arena.lent(), region.len()) {
-        Ok(sound) => sound,
-        Err(r) => return said_token(Err(r), Token::default()),
-    };
-    let got = allocate_with_token_placed(&sound, Layout { size, align });
-    change_in(arena, got.change);
-    said_token(got.answer, got.token)
+    let (answer, token) = allocate_with_token_on(arena, region, size, align);
+    said_token(answer, token)
 }
 
 #[unsafe(no_mangle)]
@@ -41,11 +33,5 @@ pub extern "C" fn miravoly_cancel(
     ensures value { result ≡ said_of (cancel_of arena.old offset (token_of count pointer)).answer }
     ensures arena_after { arena.new ≡ (cancel_of arena.old offset (token_of count pointer)).arena }
 {
-    let token = Token { count, pointer };
-    let Some(sound) = arena.sound() else {
-        return Refusal::State.into();
-    };
-    let got = cancel_ended(&sound, offset, token);
-    change_in(arena, got.change);
-    got.answer.into()
+    cancel_on(arena, offset, Token { count, pointer }).into()
 }

@@ -69,7 +69,7 @@ fn always(change: Change) -> Ran
     }
 }
 
-#[tactic(auto, unfolding(crate::specs::Run::run_in, crate::specs::Inner::request_said, crate::specs::Inner::ran_said, crate::specs::Run::answer_reply, arena::specs::Inner::changed_by, arena::specs::Inner::limited_by, arena::specs::Creation::reset_of, arena::specs::Creation::set_limit_of, arena::specs::Creation::no_limit_of, arena::specs::Refusals::answered, arena::specs::Refusals::refused_by))]
+#[tactic(auto, unfolding(crate::specs::Run::run_in, crate::specs::Inner::request_said, crate::specs::Inner::ran_said, crate::specs::Run::answer_reply, arena::specs::Inner::changed_by, arena::specs::Creation::reset_of, arena::specs::Creation::set_limit_of, arena::specs::Creation::no_limit_of, arena::specs::Refusals::answered, arena::specs::Refusals::refused_by))]
 pub fn run(a: &Sound, region: &mut [u8], request: Request) -> Ran
     requires { length region.old ≡ a.now.lent.head.region }
     ensures { ran_said (lent_of a.now.lent) result region.new ≡ run_in (request_said request) (lent_of a.now.lent) region.old }
@@ -125,8 +125,8 @@ pub fn run(a: &Sound, region: &mut [u8], request: Request) -> Ran
             Ran::from(shrink_placed(a, region, block, wanted))
         }
         Request::Reset => always(Change::Kept),
-        Request::SetLimit { limit } => always(Change::Limited(Some(limit))),
-        Request::NoLimit => always(Change::Limited(None)),
+        Request::SetLimit { limit } => always(Change::Limited(1, limit)),
+        Request::NoLimit => always(Change::Limited(0, 0)),
         Request::AllocateWithToken { size, align } => Ran::from(allocate_with_token_placed(
             a,
             Layout { size, align },

@@ -8,7 +8,7 @@ ghost use Rattle.calls.specs.Inner.{grown_pointer, FastBy, AnsweredBy, GrowTeste
 
 use arena::layout::{Allowed, Block, Layout};
 use arena::sound::Sound;
-use arena::{Arena, Outcome};
+use arena::{Arena, Outcome, Refusal};
 use calls::Answered;
 use calls::allocate::allocate_in_full;
 use calls::block::{is_at_pointer, is_last_block};
@@ -105,22 +105,20 @@ pub fn grow_placed(a: &Sound, region: &mut [u8], block: Block, new: Layout) -> A
 }
 
 // The frame and the arguments as allocate's.
-pub fn grow(
-    a: Arena,
+pub fn grow_on(
+    a: &mut Arena,
     region: &mut [u8],
     offset: usize,
     old: usize,
     old_align: usize,
     new: usize,
     new_align: usize,
-) -> Outcome<usize>
-    ensures value { result ≡ grow_of a (length region.old) offset old old_align new new_align }
-    ensures region_after { region.new ≡ grow_bytes a region.old offset old old_align new new_align }
+) -> Result<usize, Refusal>
+    ensures value { result ≡ (grow_of a.old (length region.old) offset old old_align new new_align).answer }
+    ensures arena_after { a.new ≡ (grow_of a.old (length region.old) offset old old_align new new_align).arena }
+    ensures region_after { region.new ≡ grow_bytes a.old region.old offset old old_align new new_align }
 {
-    let sound = match lent_sound(a.lent(), region.len()) {
-        Ok(sound) => sound,
-        Err(r) => return Outcome::refused(a, r),
-    };
+    let sound = lent_sound(a.lent(), region.len())?;
     let block = Block {
         offset,
         layout: Layout {
@@ -133,13 +131,46 @@ pub fn grow(
         align: new_align,
     };
     let got = grow_placed(&sound, region, block, wanted);
-    Outcome {
-        answer: got.answer,
-        arena: a.changed(got.change),
-    }
+    a.change(got.change);
+    got.answer
+}
+
+pub fn grow(
+    a: Arena,
+    region: &mut [u8],
+    offset: usize,
+    old: usize,
+    old_align: usize,
+    new: usize,
+    new_align: usize,
+) -> Outcome<usize>
+    ensures value { result ≡ grow_of a (length region.old) offset old old_align new new_align }
+    ensures region_after { region.new ≡ grow_bytes a region.old offset old old_align new new_align }
+{
+    let mut arena = a;
+    let answer = grow_on(&mut arena, region, offset, old, old_align, new, new_align);
+    Outcome { answer, arena }
 }
 
 // The bytes after the old ones are cleared.
+pub fn grow_zeroed_on(
+    a: &mut Arena,
+    region: &mut [u8],
+    offset: usize,
+    old: usize,
+    old_align: usize,
+    new: usize,
+    new_align: usize,
+) -> Result<usize, Refusal>
+    ensures value { result ≡ (grow_of a.old (length region.old) offset old old_align new new_align).answer }
+    ensures arena_after { a.new ≡ (grow_of a.old (length region.old) offset old old_align new new_align).arena }
+    ensures region_after { region.new ≡ grow_zeroed_bytes a.old region.old offset old old_align new new_align }
+{
+    let to = grow_on(a, region, offset, old, old_align, new, new_align)?;
+    fill(region, to + old, new - old, 0);
+    Ok(to)
+}
+
 pub fn grow_zeroed(
     a: Arena,
     region: &mut [u8],
@@ -152,9 +183,7 @@ pub fn grow_zeroed(
     ensures value { result ≡ grow_of a (length region.old) offset old old_align new new_align }
     ensures region_after { region.new ≡ grow_zeroed_bytes a region.old offset old old_align new new_align }
 {
-    let got = grow(a, region, offset, old, old_align, new, new_align);
-    if let Ok(to) = got.answer {
-        fill(region, to + old, new - old, 0);
-    }
-    got
+    let mut arena = a;
+    let answer = grow_zeroed_on(&mut arena, region, offset, old, old_align, new, new_align);
+    Outcome { answer, arena }
 }

@@ -10,7 +10,7 @@ use crate::grow::grown_block;
 use crate::shrink::shrunk_block;
 use arena::layout::{Block, Layout};
 use arena::sound::Sound;
-use arena::{Arena, Outcome};
+use arena::{Arena, Outcome, Refusal};
 use calls::Answered;
 use calls::allocate::allocate_in_full;
 use calls::bytes::carry;
@@ -58,6 +58,28 @@ pub fn resize_placed(a: &Sound, region: &mut [u8], block: Block, new: usize) -> 
 }
 
 // The frame and the arguments as allocate's.
+pub fn resize_on(
+    a: &mut Arena,
+    region: &mut [u8],
+    offset: usize,
+    old: usize,
+    align: usize,
+    new: usize,
+) -> Result<usize, Refusal>
+    ensures value { result ≡ (resize_of a.old (length region.old) offset old align new).answer }
+    ensures arena_after { a.new ≡ (resize_of a.old (length region.old) offset old align new).arena }
+    ensures region_after { region.new ≡ resize_bytes a.old region.old offset old align new }
+{
+    let sound = lent_sound(a.lent(), region.len())?;
+    let block = Block {
+        offset,
+        layout: Layout { size: old, align },
+    };
+    let got = resize_placed(&sound, region, block, new);
+    a.change(got.change);
+    got.answer
+}
+
 pub fn resize(
     a: Arena,
     region: &mut [u8],
@@ -69,17 +91,7 @@ pub fn resize(
     ensures value { result ≡ resize_of a (length region.old) offset old align new }
     ensures region_after { region.new ≡ resize_bytes a region.old offset old align new }
 {
-    let sound = match lent_sound(a.lent(), region.len()) {
-        Ok(sound) => sound,
-        Err(r) => return Outcome::refused(a, r),
-    };
-    let block = Block {
-        offset,
-        layout: Layout { size: old, align },
-    };
-    let got = resize_placed(&sound, region, block, new);
-    Outcome {
-        answer: got.answer,
-        arena: a.changed(got.change),
-    }
+    let mut arena = a;
+    let answer = resize_on(&mut arena, region, offset, old, align, new);
+    Outcome { answer, arena }
 }

@@ -10,7 +10,7 @@ ghost use Rattle.calls.specs.Inner.{FastBy, AnsweredBy, ShrinkTested};
 use arena::change::Change;
 use arena::layout::{Block, Layout};
 use arena::sound::Sound;
-use arena::{Arena, Outcome};
+use arena::{Arena, Outcome, Refusal};
 use calls::Answered;
 use calls::allocate::allocate_in_full;
 use calls::block::{is_at_pointer, is_last_block};
@@ -122,22 +122,20 @@ pub fn shrink_placed(a: &Sound, region: &mut [u8], block: Block, new: Layout) ->
 }
 
 // The frame and the arguments as allocate's.
-pub fn shrink(
-    a: Arena,
+pub fn shrink_on(
+    a: &mut Arena,
     region: &mut [u8],
     offset: usize,
     old: usize,
     old_align: usize,
     new: usize,
     new_align: usize,
-) -> Outcome<usize>
-    ensures value { result ≡ shrink_of a (length region.old) offset old old_align new new_align }
-    ensures region_after { region.new ≡ shrink_bytes a region.old offset old old_align new new_align }
+) -> Result<usize, Refusal>
+    ensures value { result ≡ (shrink_of a.old (length region.old) offset old old_align new new_align).answer }
+    ensures arena_after { a.new ≡ (shrink_of a.old (length region.old) offset old old_align new new_align).arena }
+    ensures region_after { region.new ≡ shrink_bytes a.old region.old offset old old_align new new_align }
 {
-    let sound = match lent_sound(a.lent(), region.len()) {
-        Ok(sound) => sound,
-        Err(r) => return Outcome::refused(a, r),
-    };
+    let sound = lent_sound(a.lent(), region.len())?;
     let block = Block {
         offset,
         layout: Layout {
@@ -150,8 +148,23 @@ pub fn shrink(
         align: new_align,
     };
     let got = shrink_placed(&sound, region, block, wanted);
-    Outcome {
-        answer: got.answer,
-        arena: a.changed(got.change),
-    }
+    a.change(got.change);
+    got.answer
+}
+
+pub fn shrink(
+    a: Arena,
+    region: &mut [u8],
+    offset: usize,
+    old: usize,
+    old_align: usize,
+    new: usize,
+    new_align: usize,
+) -> Outcome<usize>
+    ensures value { result ≡ shrink_of a (length region.old) offset old old_align new new_align }
+    ensures region_after { region.new ≡ shrink_bytes a region.old offset old old_align new new_align }
+{
+    let mut arena = a;
+    let answer = shrink_on(&mut arena, region, offset, old, old_align, new, new_align);
+    Outcome { answer, arena }
 }

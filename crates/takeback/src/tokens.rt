@@ -51,24 +51,34 @@ pub fn allocate_with_token_placed(a: &Sound, layout: Layout) -> TokenPlaced
 }
 
 // The frame and the arguments as allocate's.
-pub fn allocate_with_token(a: Arena, region: &[u8], size: usize, align: usize) -> TokenAllocation
-    ensures { result ≡ with_token_of a (length region.now) size align }
+pub fn allocate_with_token_on(
+    a: &mut Arena,
+    region: &[u8],
+    size: usize,
+    align: usize,
+) -> (Result<usize, Refusal>, Token)
+    ensures value { result.0 ≡ (with_token_of a.old (length region.now) size align).answer }
+    ensures token { result.1 ≡ (with_token_of a.old (length region.now) size align).token }
+    ensures arena_after { a.new ≡ (with_token_of a.old (length region.now) size align).arena }
 {
     let sound = match lent_sound(a.lent(), region.len()) {
         Ok(sound) => sound,
-        Err(r) => {
-            return TokenAllocation {
-                answer: Err(r),
-                token: Token::default(),
-                arena: a,
-            };
-        }
+        Err(r) => return (Err(r), Token::default()),
     };
     let got = allocate_with_token_placed(&sound, Layout { size, align });
+    a.change(got.change);
+    (got.answer, got.token)
+}
+
+pub fn allocate_with_token(a: Arena, region: &[u8], size: usize, align: usize) -> TokenAllocation
+    ensures { result ≡ with_token_of a (length region.now) size align }
+{
+    let mut arena = a;
+    let (answer, token) = allocate_with_token_on(&mut arena, region, size, align);
     TokenAllocation {
-        answer: got.answer,
-        token: got.token,
-        arena: a.changed(got.change),
+        answer,
+        token,
+        arena,
     }
 }
 
@@ -126,16 +136,22 @@ pub fn cancel_ended(a: &Sound, offset: usize, token: Token) -> Answered<()>
     }
 }
 
-// The frame as free's, and document 01's own arguments.
+pub fn cancel_on(a: &mut Arena, offset: usize, token: Token) -> Result<(), Refusal>
+    ensures value { result ≡ (cancel_of a.old offset token).answer }
+    ensures arena_after { a.new ≡ (cancel_of a.old offset token).arena }
+{
+    let Some(sound) = a.sound() else {
+        return Err(Refusal::State);
+    };
+    let ended = cancel_ended(&sound, offset, token);
+    a.change(ended.change);
+    ended.answer
+}
+
 pub fn cancel(a: Arena, offset: usize, token: Token) -> Outcome<()>
     ensures { result ≡ cancel_of a offset token }
 {
-    let Some(sound) = a.sound() else {
-        return Outcome::refused(a, Refusal::State);
-    };
-    let ended = cancel_ended(&sound, offset, token);
-    Outcome {
-        answer: ended.answer,
-        arena: a.changed(ended.change),
-    }
+    let mut arena = a;
+    let answer = cancel_on(&mut arena, offset, token);
+    Outcome { answer, arena }
 }

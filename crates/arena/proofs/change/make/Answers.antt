@@ -26,7 +26,7 @@ pub returns-else-count-ge-PLACES : goal.returns-else-count-ge-PLACES
 returns-else-count-ge-PLACES c = adds (sound-open _ c.requires) c.in-Added.is (omega arith)
 
 pub returns-in-Limited : goal.returns-in-Limited
-returns-in-Limited c = limits (sound-open _ c.requires) c.in-Limited.is c.limited_by.ensures
+returns-in-Limited c = limits (sound-open _ c.requires) c.in-Limited.is
 
 pub returns-in-Kept : goal.returns-in-Kept
 returns-in-Kept c = keeps (sound-open _ c.requires) c.in-Kept.is c.keep_current.ensures

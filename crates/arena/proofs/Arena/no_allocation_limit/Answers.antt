@@ -1,8 +1,0 @@
--- `arena::Arena::no_allocation_limit` meets its contract: an unsound record is refused, and a sound one has no limit then. Assumes nothing.
-use Rattle.arena.specs.Inner.{limited_by, changed_by}
-use Rattle.arena.specs.Creation.{no_limit_of}
-use Rattle.arena.proofs.Arena.no_allocation_limit.Goals as goal
-
-pub returns : goal.returns
-unfolding no_limit_of changed_by limited_by
-returns c = c.changed_if_sound.ensures

@@ -1,0 +1,9 @@
+-- `calls::free::free_on` meets its contract: an unsound record is refused, and the rest is the sound record's. Assumes nothing.
+use mathlib.Core.Path.{refl}
+use Rattle.calls.proofs.Freeing.{free-state}
+use Rattle.calls.proofs.free.free_on.Goals as goal
+
+pub returns-in_default : goal.returns-in_default
+returns-in_default c =
+    let stopped = free-state c.args.a.now c.args.offset c.args.size c.args.align c.in_default.ensures.unsound in
+    record { value = rw stopped refl; arena_after = rw stopped refl }
